@@ -11,15 +11,14 @@ import collections
 import os
 import subprocess
 import sys
-import tempfile
 from typing import Counter, List, NamedTuple, Optional, Tuple
 
 from image import DEFAULT
-from kills import read, write
-from program import Ended, Program, found_program, program_argument
+from program import Ended, Program, found_program, new_folder, program_argument, read_file, write_file
 
 HERE = os.path.dirname(os.path.abspath(__file__))
 IMAGE, COMMANDS, LONG, COUNT = "d.img", "c.txt", "long.txt", "count.txt"
+FILES = sorted([IMAGE, COMMANDS, LONG, COUNT, "refuse.so"])
 SCRIPT = b"""write 1 0=01 1=02 2=03
 finish 1
 read 0
@@ -66,24 +65,24 @@ class Allocations:
         self.path, self.old = path, old
 
     def run(self, row: Row, at: int, refuses_all: bool) -> Ended:
-        write(IMAGE, self.old)
+        write_file(IMAGE, self.old)
         environment = {"LD_PRELOAD": os.path.abspath("refuse.so"), "REFUSE_AT": str(at), "REFUSE_COUNT": COUNT}
         if refuses_all:
             environment["REFUSE_ALL"] = "1"
         return Program(self.path, environment).run(list(row.words))
 
-    def row(self, row: Row, refuses_all: bool) -> List[str]:
+    def try_row(self, row: Row, refuses_all: bool) -> List[str]:
         """What is wrong with a row of words."""
         whole = self.run(row, 0, False)
-        new = read(IMAGE)
-        count = int(read(COUNT) or b"0")
+        new = read_file(IMAGE)
+        count = int(read_file(COUNT) or b"0")
         kinds: Counter[str] = collections.Counter()
         wrong, seen_new = [], False
         if whole.status or count == 0 or (new != self.old) != row.saves:
             return [f"{' '.join(row.words)}: status {whole.status} with all memory, {count} allocations"]
         for at in range(1, count + 1):
             ended = self.run(row, at, refuses_all)
-            left = read(IMAGE)
+            left = read_file(IMAGE)
             kind = kind_of(row, whole, ended, self.old, new, left)
             kinds[kind] += 1
             seen_new = seen_new or kind.startswith("6 new")
@@ -97,10 +96,8 @@ class Allocations:
         return wrong
 
 
-FILES = sorted([IMAGE, COMMANDS, LONG, COUNT, "refuse.so"])
-
-
 def kind_of(row: Row, whole: Ended, ended: Ended, old: bytes, new: Optional[bytes], left: Optional[bytes]) -> str:
+    """How a run ended whose allocation was refused, `other` where that is wrong."""
     if ended.status == 6 and ended.said in (b"no memory\n", b""):
         said = "" if ended.said else " and nothing said"
         if left == old:
@@ -113,22 +110,18 @@ def kind_of(row: Row, whole: Ended, ended: Ended, old: bytes, new: Optional[byte
 
 def refuse_each(path: str, room: Optional[str]) -> int:
     """Answers how many faults there were."""
-    with tempfile.TemporaryDirectory(prefix="allocations-", dir=room) as folder:
-        os.chdir(folder)
-        try:
-            build = ["cc", "-shared", "-fPIC", "-O2", "-o", "refuse.so", os.path.join(HERE, "refuse.c")]
-            subprocess.run(build, check=True)
-            write(COMMANDS, SCRIPT)
-            # Replies of some 80 kB.
-            write(LONG, SCRIPT + b"explain\n" * 300)
-            write(COUNT, b"")
-            config = DEFAULT._replace(logical=19)
-            if Program(path).run(["format", IMAGE, *config.words()]).status:
-                raise SystemExit("allocations: no image was made")
-            work = Allocations(path, read(IMAGE) or b"")
-            wrong = [it for everything in (False, True) for row in ROWS for it in work.row(row, everything)]
-        finally:
-            os.chdir("/")
+    with new_folder("allocations-", room):
+        build = ["cc", "-shared", "-fPIC", "-O2", "-o", "refuse.so", os.path.join(HERE, "refuse.c")]
+        subprocess.run(build, check=True)
+        write_file(COMMANDS, SCRIPT)
+        # Replies of some 80 kB.
+        write_file(LONG, SCRIPT + b"explain\n" * 300)
+        write_file(COUNT, b"")
+        config = DEFAULT._replace(logical=19)
+        if Program(path).run(["format", IMAGE, *config.words()]).status:
+            raise SystemExit("allocations: no image was made")
+        work = Allocations(path, read_file(IMAGE) or b"")
+        wrong = [it for everything in (False, True) for row in ROWS for it in work.try_row(row, everything)]
     for it in wrong:
         print(f"allocations: {it}")
     print(f"allocations: {len(wrong)} faults", flush=True)

@@ -45,7 +45,8 @@ class Files:
         own = os.path.basename(name)
         return own.startswith(self.image) and bool(BESIDE.fullmatch(own[len(self.image):]))
 
-    def opened(self, name: bytes, words: str, number: str) -> Optional[Event]:
+    def take_opening(self, name: bytes, words: str, number: str) -> Optional[Event]:
+        """Notes which file has a number from here on."""
         if self.is_new(name):
             if "O_EXCL" not in words:
                 raise Odd(f"the opening of {name!r} may find a file there")
@@ -57,7 +58,7 @@ class Files:
             self.roles[number] = "folder"
         return None
 
-    def renamed(self, words: str) -> Event:
+    def take_rename(self, words: str) -> Event:
         """The new file takes the name. It is locked then, and the other file is no longer asked anything."""
         names = texts_of(words)
         if names[:1] != [self.new_name] or os.path.basename(names[-1]) != self.image or not self.is_locked:
@@ -65,7 +66,7 @@ class Files:
         self.roles = {number: {"new": "image", "image": "old"}.get(role, role) for number, role in self.roles.items()}
         return Event("put")
 
-    def of_image(self, name: str, words: str, count: int) -> Optional[Event]:
+    def take_call_of_image(self, name: str, words: str, count: int) -> Optional[Event]:
         if name == "pwrite64":
             return Event("write", int(words.split(", ")[-1]), text_of(words)[:count])
         if name in ("fdatasync", "fsync"):
@@ -74,7 +75,7 @@ class Files:
             return None
         raise Odd(f"{name} of the image")
 
-    def of_new(self, name: str, words: str, count: int) -> Optional[Event]:
+    def take_call_of_new(self, name: str, words: str, count: int) -> Optional[Event]:
         if name == "write":
             self.new_end += count
             return Event("laid", self.new_end - count, text_of(words)[:count])
@@ -85,16 +86,16 @@ class Files:
             return None
         raise Odd(f"{name} of the new file")
 
-    def called(self, name: str, words: str, answer: int) -> Optional[Event]:
+    def take_call(self, name: str, words: str, answer: int) -> Optional[Event]:
         """A call of an open file, which is the first of its words."""
         number = words.split(", ")[0]
         role = self.roles.get(number)
         if name == "close":
             self.roles.pop(number, None)
         elif role == "image":
-            return self.of_image(name, words, answer)
+            return self.take_call_of_image(name, words, answer)
         elif role == "new":
-            return self.of_new(name, words, answer)
+            return self.take_call_of_new(name, words, answer)
         elif role == "folder" and name == "fsync":
             return Event("named")
         elif role:
@@ -117,16 +118,16 @@ def events(lines: List[str], image: str) -> Iterator[Event]:
         if name in ("open", "openat"):
             if answer < 0 and files.roles and not (found[4] == "EEXIST" and files.is_new(text_of(words))):
                 raise Odd(line[:200])
-            event = files.opened(text_of(words), words, str(answer)) if answer >= 0 else None
+            event = files.take_opening(text_of(words), words, str(answer)) if answer >= 0 else None
         elif not files.roles:
             continue
         elif answer < 0:
             raise Odd(line[:200])
         elif name.startswith("rename"):
-            event = files.renamed(words)
+            event = files.take_rename(words)
         elif name.startswith(("link", "unlink")):
             raise Odd(line[:200])
         else:
-            event = files.called(name, words, answer)
+            event = files.take_call(name, words, answer)
         if event:
             yield event

@@ -70,7 +70,7 @@ class Script:
         verb = self.draw.choice((f"cut {number} {outcome}", f"fault {number} {outcome}", f"badread {number}"))
         self.lines.append(verb)
 
-    def counted(self) -> None:
+    def arm_between_stats(self) -> None:
         """A break with `stats` before and behind it, so that it is known where it has to come."""
         self.lines.append("stats")
         self.arm()
@@ -93,7 +93,7 @@ class Script:
     def command(self) -> None:
         draw = self.draw
         if draw.random() < self.arms:
-            draw.choice((self.doubt, self.doubt, self.counted, self.arm, self.arm, self.arm))()
+            draw.choice((self.doubt, self.doubt, self.arm_between_stats, self.arm, self.arm, self.arm))()
             return
         how = draw.random()
         if how < 0.25 or how < 0.7 and not self.open:

@@ -3,7 +3,7 @@
 A cut or a fault that is armed for the N-th program or erase comes in exactly that one. The programs and erases that
 were called are those that `stats` counts and those that were broken. Where the replies do not tell them all, nothing is
 tried."""
-from typing import Dict, Optional
+from typing import Dict, List, Optional
 
 from grammar import Command
 
@@ -64,7 +64,7 @@ class Counts:
             self.due.pop("fault")
             self.broken = None
 
-    def stats(self, words: list) -> Optional[str]:
+    def stats(self, words: List[str]) -> Optional[str]:
         programs, erases = int(words[8]), int(words[10])
         if programs < self.programs or erases < self.erases:
             return "a count of programs or erases fell"

@@ -12,12 +12,10 @@ import shutil
 import stat
 import subprocess
 import sys
-import tempfile
 from typing import Callable, List, NamedTuple, Optional
 
 from image import DEFAULT, blank_image, spell_image
-from kills import read, write
-from program import Ended, exit_code, found_program, program_argument
+from program import Ended, exit_code, found_program, new_folder, program_argument, read_file, write_file
 
 NOBODY = 65534
 # 64 slots of 4096 bytes: some 266 kB.
@@ -35,7 +33,7 @@ class Case(NamedTuple):
     words: str = "run d/d.img c.txt"
 
 
-def start_as(program: str, words: List[str], user: int) -> Ended:
+def run_as(program: str, words: List[str], user: int) -> Ended:
     """Runs the program as this user."""
     reader, writer = os.pipe()
     child = os.fork()
@@ -54,6 +52,7 @@ def start_as(program: str, words: List[str], user: int) -> Ended:
 
 
 def own(name: str, mode: int, user: int = NOBODY) -> Callable[[], None]:
+    """A change that gives a file to a user, with these rights."""
     def change() -> None:
         os.chown(name, user, user, follow_symlinks=False)
         os.chmod(name, mode)
@@ -89,25 +88,27 @@ CASES = (
 
 
 def lay_out(image: bytes) -> None:
+    """Puts the image and the commands to their places anew."""
     for name in ("d", "l"):
         shutil.rmtree(name, ignore_errors=True)
         os.mkdir(name)
         own(name, 0o755)()
-    write("d/d.img", image)
+    write_file("d/d.img", image)
     os.symlink("../d/d.img", "l/link")
-    write("c.txt", SCRIPT)
+    write_file("c.txt", SCRIPT)
     for name, mode in (("d/d.img", 0o644), ("c.txt", 0o644)):
         own(name, mode)()
 
 
 def try_rights(program: str, old: bytes, new: bytes) -> List[str]:
+    """What is wrong where rights are taken away."""
     wrong = []
     for case in CASES:
         lay_out(old)
         case.change()
         before = {it: stat_of(it) for it in ("d/d.img",)}
-        ended = start_as(program, case.words.split(" "), NOBODY)
-        left, files = read("d/d.img"), sorted(os.listdir("d"))
+        ended = run_as(program, case.words.split(" "), NOBODY)
+        left, files = read_file("d/d.img"), sorted(os.listdir("d"))
         holds = ended.status == case.status and left == (new if case.status == 0 else old)
         holds = holds and files == ["d.img"] and os.path.islink("l/link") and stat_of("d/d.img") == before["d/d.img"]
         if not holds or (case.status == 5 and ended.said != DESK_FAULT):
@@ -125,7 +126,7 @@ def stat_of(name: str) -> str:
 
 # An output that takes nothing.
 
-def start_unheard(program: str, words: List[str], output: str) -> int:
+def run_unheard(program: str, words: List[str], output: str) -> int:
     """The status of a run whose output is full, is closed, or has nobody who reads it."""
     child = os.fork()
     if child == 0:
@@ -156,8 +157,8 @@ def try_outputs(program: str, old: bytes, new: bytes) -> List[str]:
                 if second:
                     os.link("d/d.img", "l/second")
                 count += 1
-                status = start_unheard(program, words.split(" "), output)
-                if status != 5 or read("d/d.img") != wanted or os.listdir("d") != ["d.img"]:
+                status = run_unheard(program, words.split(" "), output)
+                if status != 5 or read_file("d/d.img") != wanted or os.listdir("d") != ["d.img"]:
                     wrong.append(f"{words}, output {output}: status {status}, or the image is another one")
     print(f"disk: {count} runs with an output that takes nothing: {len(wrong)} faults", flush=True)
     return wrong
@@ -174,12 +175,12 @@ def fill(leaves: int) -> None:
             file.write(bytes(PAGE) * (free - leaves))
 
 
-def full_save(program: str, words: List[str], leaves: int, old: Optional[bytes], new: bytes) -> str:
+def save_on_full(program: str, words: List[str], leaves: int, old: Optional[bytes], new: bytes) -> str:
     """Saves where so many pages are free; `old`, `new` or `torn` as it left the image, or what is wrong."""
     fill(leaves)
     earlier = sorted(os.listdir("."))
-    ended = start_as(program, words, 0)
-    left, files = read("d.img"), sorted(os.listdir("."))
+    ended = run_as(program, words, 0)
+    left, files = read_file("d.img"), sorted(os.listdir("."))
     if ended.status == 0 and left == new and set(files) <= {*earlier, "d.img"}:
         return "new"
     if ended.status == 5 and ended.said == DESK_FAULT and files == earlier:
@@ -192,18 +193,19 @@ def full_save(program: str, words: List[str], leaves: int, old: Optional[bytes],
 
 
 def is_torn(program: str) -> bool:
-    ended = start_as(program, ["explain", "d.img"], 0)
+    ended = run_as(program, ["explain", "d.img"], 0)
     return ended.status == 3 and ended.said == b"bad image: magic\n"
 
 
 def clear() -> None:
+    """Removes all files but the commands."""
     for name in os.listdir("."):
         if name != "c.txt":
             os.remove(name)
 
 
-def with_two_names(old: bytes) -> None:
-    write("d.img", old)
+def write_with_two_names(old: bytes) -> None:
+    write_file("d.img", old)
     os.link("d.img", "second")
 
 
@@ -215,27 +217,28 @@ def try_full(program: str, old: bytes, new: bytes, blank: bytes) -> List[str]:
     serve, make = ["run", "d.img", "c.txt"], ["format", "d.img", *DEVICE]
     for leaves in range(len(new) // PAGE + 4):
         clear()
-        write("d.img", old)
-        left.append(full_save(program, serve, leaves, old, new))
+        write_file("d.img", old)
+        left.append(save_on_full(program, serve, leaves, old, new))
         clear()
-        left.append(full_save(program, make, leaves, None, blank))
+        left.append(save_on_full(program, make, leaves, None, blank))
         clear()
-        with_two_names(old)
-        left.append(full_save(program, serve, leaves, old, new))
+        write_with_two_names(old)
+        left.append(save_on_full(program, serve, leaves, old, new))
         clear()
-        with_two_names(small)
-        left.append(full_save(program, make, leaves, small, blank))
+        write_with_two_names(small)
+        left.append(save_on_full(program, make, leaves, small, blank))
     wrong = [it for it in left if it not in ("old", "new", "torn")]
     counts = ", ".join(f"{left.count(it)} {it}" for it in ("old", "new", "torn"))
     print(f"disk: {len(left)} saves on a disk that is full, or nearly: {counts}: {len(wrong)} faults", flush=True)
     return wrong
 
 
-def with_small_disk(folder: str, work: Callable[[], List[str]]) -> List[str]:
+def work_on_small_disk(folder: str, work: Callable[[], List[str]]) -> List[str]:
+    """Does this work in a folder that is a disk of 2 MB."""
     subprocess.run(["mount", "-t", "tmpfs", "-o", "size=2m,mode=0755", "tmpfs", folder], check=True)
     try:
         os.chdir(folder)
-        write("c.txt", SCRIPT)
+        write_file("c.txt", SCRIPT)
         return work()
     finally:
         os.chdir("/")
@@ -247,26 +250,22 @@ def try_disk(path: str) -> int:
     if os.getuid():
         print("disk: not tried: this is for the superuser")
         return 0
-    with tempfile.TemporaryDirectory(prefix="disk-") as folder:
-        os.chdir(folder)
+    with new_folder("disk-") as folder:
         os.chmod(folder, 0o755)
-        try:
-            shutil.copy(path, "program")
-            os.chmod("program", 0o755)
-            program = os.path.abspath("program")
-            write("c.txt", SCRIPT)
-            start_as(program, ["format", "d.img", *DEVICE], 0)
-            old = read("d.img") or b""
-            start_as(program, ["run", "d.img", "c.txt"], 0)
-            new = read("d.img") or b""
-            blank = old
-            if not old or old == new:
-                raise SystemExit("disk: no image was made")
-            wrong = try_rights(program, old, new) + try_outputs(program, old, new)
-            os.mkdir("small")
-            wrong += with_small_disk(os.path.abspath("small"), lambda: try_full(program, old, new, blank))
-        finally:
-            os.chdir("/")
+        shutil.copy(path, "program")
+        os.chmod("program", 0o755)
+        program = os.path.abspath("program")
+        write_file("c.txt", SCRIPT)
+        run_as(program, ["format", "d.img", *DEVICE], 0)
+        old = read_file("d.img") or b""
+        run_as(program, ["run", "d.img", "c.txt"], 0)
+        new = read_file("d.img") or b""
+        blank = old
+        if not old or old == new:
+            raise SystemExit("disk: no image was made")
+        wrong = try_rights(program, old, new) + try_outputs(program, old, new)
+        os.mkdir("small")
+        wrong += work_on_small_disk(os.path.abspath("small"), lambda: try_full(program, old, new, blank))
     for it in wrong:
         print(f"disk: {it}")
     return len(wrong)

@@ -7,14 +7,13 @@ Files of 134217728 bytes and one byte more, the largest devices, transactions of
 import argparse
 import os
 import sys
-import tempfile
 from typing import Callable, List, NamedTuple, Optional
 
 from image import BPCC, HEADER, MAX_FILE, SCC, Config, Record, blank_image, complete, spell_header, spell_image
 from judge import Wrong, check_end, check_explain, check_run, check_said, check_try
-from kills import read as read_file, write
 from laws import read
-from program import Program, found_program, program_argument
+from program import (MEMORY, Ended, Program, found_program, new_folder, program_argument, read_file,
+                     write_file)
 
 IMAGE, COMMANDS = "d.img", "c.txt"
 # What is read here line by line or word by word has fewer bytes.
@@ -88,7 +87,8 @@ NAMED = (
 )
 
 
-def tried(name: str, work: Callable[[], None]) -> int:
+def try_edge(name: str, work: Callable[[], None]) -> int:
+    """Does what tries an edge, and answers how many faults there were."""
     try:
         work()
     except Wrong as wrong:
@@ -101,48 +101,48 @@ class Edges:
     def __init__(self, program: Program) -> None:
         self.program, self.slowest, self.slow = program, 0.0, ""
 
-    def run(self, name: str, words: List[str]):
+    def run(self, name: str, words: List[str]) -> Ended:
         ended = self.program.run(words)
         if ended.seconds > self.slowest:
             self.slowest, self.slow = ended.seconds, name
         return ended
 
-    def commands(self, name: str, data: bytes) -> None:
-        write(COMMANDS, data)
+    def try_commands(self, name: str, data: bytes) -> None:
+        """A file of commands, on a fresh device."""
+        write_file(COMMANDS, data)
         check_try(data, COMMANDS, self.run(name, ["try", COMMANDS]))
 
-    def image(self, name: str, data: bytes) -> None:
-        write(IMAGE, data)
+    def try_image(self, name: str, data: bytes) -> None:
+        """An image, which `explain` and `run` are given."""
+        write_file(IMAGE, data)
         script = b"write 1 0=01 1=02\ncut 2 all\nfinish 1\nread 0\nread 1\nstats\n"
-        write(COMMANDS, script)
+        write_file(COMMANDS, script)
         reading = read(data, IMAGE)
         check_explain(reading, self.run(name, ["explain", IMAGE]), data, read_file(IMAGE))
         check_run(reading, data, script, COMMANDS, self.run(name, ["run", IMAGE, COMMANDS]), read_file(IMAGE))
 
-    def named(self, it: Named) -> None:
+    def try_name(self, it: Named) -> None:
+        """Words with a name that is none of a plain file."""
         ended = self.run(" ".join(it.words)[:80], it.words)
         check_end(ended)
         check_said(ended, it.status, it.said)
 
-    def all(self) -> int:
-        faults = sum(tried(name, lambda: self.commands(name, make())) for name, make in COMMAND_FILES.items())
-        faults += sum(tried(name, lambda: self.image(name, make())) for name, make in IMAGES.items())
-        write(IMAGE, spell_image(blank_image(LONG)))
-        write(COMMANDS, b"read 0\n")
+    def try_all(self) -> int:
+        """Answers how many faults there were."""
+        faults = sum(try_edge(name, lambda: self.try_commands(name, make())) for name, make in COMMAND_FILES.items())
+        faults += sum(try_edge(name, lambda: self.try_image(name, make())) for name, make in IMAGES.items())
+        write_file(IMAGE, spell_image(blank_image(LONG)))
+        write_file(COMMANDS, b"read 0\n")
         os.mkdir("folder")
-        faults += sum(tried(" ".join(it.words)[:80], lambda: self.named(it)) for it in NAMED)
+        faults += sum(try_edge(" ".join(it.words)[:80], lambda: self.try_name(it)) for it in NAMED)
         return faults
 
 
 def try_edges(program: Program, room: Optional[str]) -> int:
     """Answers how many faults there were."""
-    with tempfile.TemporaryDirectory(prefix="edges-", dir=room) as folder:
-        os.chdir(folder)
-        try:
-            work = Edges(program)
-            faults = work.all()
-        finally:
-            os.chdir("/")
+    work = Edges(program)
+    with new_folder("edges-", room):
+        faults = work.try_all()
     count = len(COMMAND_FILES) + len(IMAGES) + len(NAMED)
     print(f"edges: {count} edges, the slowest run {work.slowest:.2f} s ({work.slow}): {faults} faults", flush=True)
     return faults
@@ -151,7 +151,7 @@ def try_edges(program: Program, room: Optional[str]) -> int:
 def main() -> int:
     parser = argparse.ArgumentParser(description=__doc__, formatter_class=argparse.RawDescriptionHelpFormatter)
     program_argument(parser)
-    parser.add_argument("--room", default="/dev/shm" if os.path.isdir("/dev/shm") else None)
+    parser.add_argument("--room", default=MEMORY)
     args = parser.parse_args()
     return 1 if try_edges(Program(found_program(args.program)), args.room) else 0
 

@@ -1,10 +1,10 @@
 """What is wrong with one run of the program, if anything: its status, what it said, and what it left of its files."""
-from typing import List, Optional
+from typing import FrozenSet, List, Optional
 
 from counts import Counts
 from grammar import BadLine, Command, parse
 from image import BLANK, COMPLETE, DAMAGED, DEFAULT, MAX_FILE, Config, Image
-from laws import Reading, Records, read, report
+from laws import Reading, Records, read
 from machine import Run
 from program import LONGEST, Ended
 
@@ -41,9 +41,10 @@ class Served:
         self.is_whole = True
         self.report: Optional[str] = None
         self.tidy = False
-        self.open_pages = frozenset()
+        self.open_pages: FrozenSet[int] = frozenset()
 
     def take(self, number: int, command: Command, reply: str) -> None:
+        """Goes on by a reply, which has to be one that a run may have."""
         need(self.run.take(command, reply), f"command {number}, {command.verb}: no run is answered {reply[:200]!r}")
         wrong = self.counts.take(command, reply)
         need(wrong is None, f"command {number}, {command.verb}: {wrong}")
@@ -55,8 +56,8 @@ class Served:
         elif command.verb == "explain" and self.is_whole:
             self.report = reply
 
-    def ends_with(self, data: bytes, old: Image) -> None:
-        """Whether this image may be the one that is saved at the end."""
+    def check_saved(self, data: bytes, old: Image) -> None:
+        """Looks whether this image may be the one that is saved at the end."""
         left = read(data, "")
         need(left.status == 0, f"the saved image is refused: {left.said[:100]}")
         assert left.image and left.records
@@ -83,7 +84,7 @@ def is_moved(old: Image, new: Image, programs: int, erases: int, broken: int, mo
     return len(erased) <= erases + broken and len(whole) <= programs + broken + more and len(lost) <= broken
 
 
-def is_tidy(image: Image, records: Records, open_pages: frozenset) -> bool:
+def is_tidy(image: Image, records: Records, open_pages: FrozenSet[int]) -> bool:
     """What `nothing` tells: no damaged slot, no record twice, and each one is wanted or of an open transaction."""
     wanted, found = set(records.wanted()), [it.record for it in records.placed]
     kept = [it in wanted or (it.page in open_pages and it.version == records.newest(it.page)) for it in found]
@@ -91,6 +92,7 @@ def is_tidy(image: Image, records: Records, open_pages: frozenset) -> bool:
 
 
 def serve(config: Config, records: Optional[Records], commands: List[Command], said: str) -> Served:
+    """The run that was answered so."""
     served = Served(config, records)
     for number, (command, reply) in enumerate(zip(commands, split_replies(said, commands)), 1):
         served.take(number, command, reply)
@@ -146,7 +148,7 @@ def check_run(reading: Reading, before: bytes, commands: Optional[bytes], name: 
     assert isinstance(parsed, list)
     served = serve(config, reading.records, parsed, ended.said.decode("ascii"))
     need(after is not None, "there is no image any more")
-    served.ends_with(after or b"", reading.image)
+    served.check_saved(after or b"", reading.image)
     return split_replies(ended.said.decode("ascii"), parsed)
 
 
@@ -183,6 +185,7 @@ def check_retire(reading: Reading, before: bytes, block: int, ended: Ended, afte
 
 
 def check_try(commands: bytes, name: str, ended: Ended) -> List[str]:
+    """Answers the replies, none where the commands are refused."""
     check_end(ended)
     if len(commands) > MAX_FILE:
         check_said(ended, 9, f"file too long {name}\n")

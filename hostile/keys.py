@@ -6,8 +6,8 @@ from typing import Dict, List, NamedTuple, Optional, Tuple, Union
 import findings
 import images
 from grammar import MAX_COMMANDS, OUTCOMES, BadLine, read_number, split_lines, split_words
-from image import BPCC, LAST_VERSION, SCC, Config
-from judge import Wrong, need
+from image import LAST_VERSION, Config
+from judge import need
 from laws import Pages, Reading, read
 
 Draw = random.Random
@@ -238,8 +238,9 @@ def draw_script(draw: Draw, keys: List[bytes]) -> bytes:
             words = [f"{it.hex()}={draw.choice(('~', '~', '-', draw_bytes(draw, 1).hex()))}" for it in put_keys]
             lines.append(" ".join(["put", *words]))
         if draw.random() < 0.03:
-            lines[-1] = draw.choice((lines[-1] + " x", lines[-1].upper(), lines[-1][:-1], "get " + "00" * 16,
-                                     "put 61=1", "get ", "# " + lines[-1], "", "fault 1 all", lines[-1].replace("=", "==")))
+            last = lines[-1]
+            lines[-1] = draw.choice((last + " x", last.upper(), last[:-1], "get " + "00" * 16, "put 61=1", "get ",
+                                     "# " + last, "", "fault 1 all", last.replace("=", "==")))
     return ("\n".join(lines) + draw.choice(("", "\n", "\r\n"))).encode()
 
 

@@ -16,11 +16,10 @@ import os
 import random
 import signal
 import sys
-import tempfile
 import time
 from typing import Callable, Counter, List, NamedTuple, Optional, Set
 
-from program import Program, exit_code, found_program, program_argument
+from program import Program, exit_code, found_program, new_folder, program_argument, read_file, write_file
 
 # 1024 slots of 4096 bytes, so that an image has some 4 MB and a save takes some milliseconds. Each transaction goes
 # round eight of the dies, so the old image and the new one differ all over the file.
@@ -42,19 +41,6 @@ WAYS = (Way("by its name", SINGLE, SINGLE, False), Way("through a link", LINK, S
         Way("in place", SECOND, IMAGE, True))
 
 
-def read(name: str) -> Optional[bytes]:
-    try:
-        with open(name, "rb") as file:
-            return file.read()
-    except FileNotFoundError:
-        return None
-
-
-def write(name: str, data: bytes) -> None:
-    with open(name, "wb") as file:
-        file.write(data)
-
-
 class Kills:
     """The folder in which the program is killed."""
 
@@ -72,18 +58,20 @@ class Kills:
         os.symlink("../" + SINGLE, LINK)
         self.times = {way: self.time(way) for way in WAYS}
 
-    def stands(self) -> bool:
+    def links_stand(self) -> bool:
+        """Whether the links are as they were."""
         return os.path.islink(LINK) and os.readlink(LINK) == "../" + SINGLE and os.path.samefile(IMAGE, SECOND)
 
     def beside(self) -> Set[str]:
+        """The files beside the images and links."""
         found = {f"{folder}/{name}" for folder in ("images", "links", "names") for name in os.listdir(folder)}
         return found - {IMAGE, SINGLE, LINK, SECOND}
 
     def whole_run(self, old: bytes) -> bytes:
         """What a whole run makes of the old image."""
-        write(COPY, old)
+        write_file(COPY, old)
         status = self.program.run(["run", COPY, COMMANDS]).status
-        new = read(COPY)
+        new = read_file(COPY)
         if status or new is None or new == old:
             raise SystemExit(f"kills: a run on a copy ended with status {status}")
         return new
@@ -102,7 +90,7 @@ class Kills:
 
     def time(self, way: Way) -> float:
         """How long a run goes on after the first byte of what it saves."""
-        write(COMMANDS, b"write 1 0=01\nfinish 1\n")
+        write_file(COMMANDS, b"write 1 0=01\nfinish 1\n")
         begun, process = self.has_begun(way, self.beside()), self.start(way)
         first = None
         while os.waitpid(process, os.WNOHANG) == (0, 0):
@@ -125,35 +113,37 @@ class Kills:
 
     def turn(self, number: int, way: Way) -> bool:
         """One kill with what follows it; whether it counts."""
-        write(COMMANDS, b"write 1 %s\nfinish 1\nread 1\n" % b" ".join(b"%d=%08x" % (it, number) for it in range(8)))
-        old = read(way.file) or b""
+        entries = b" ".join(b"%d=%08x" % (it, number) for it in range(8))
+        write_file(COMMANDS, b"write 1 %s\nfinish 1\nread 1\n" % entries)
+        old = read_file(way.file) or b""
         new = self.whole_run(old)
         killed = self.kill(way)
-        left = read(way.file)
+        left = read_file(way.file)
         wrong = self.look(way, old, new, left) if killed else [] if left == new else ["ended and left another image"]
-        if not self.stands():
+        if not self.links_stand():
             wrong.append("the links are not as they were")
         self.faults += [f"run {number}, {way.name}: {it}" for it in wrong]
         if wrong:
-            write(way.file, old)
+            write_file(way.file, old)
         if killed and number % 10 == 0:
             for it in self.beside():
                 os.remove(it)
         return killed
 
     def look(self, way: Way, old: bytes, new: bytes, left: Optional[bytes]) -> List[str]:
+        """What is wrong with what a kill left, and with the next run over it."""
         what = "old" if left == old else "new" if left == new else "torn" if way.in_place else "neither"
         self.counts[f"{way.name} {what}"] += 1
         next_run = self.program.run(["run", way.word, COMMANDS])
         wrong = []
         if what == "neither":
             wrong.append(f"left neither image, but {'no file' if left is None else f'{len(left)} bytes'}")
-            write(way.file, old)
+            write_file(way.file, old)
         elif what == "torn":
-            if next_run.status != 3 or next_run.said != b"bad image: magic\n" or read(way.file) != left:
+            if next_run.status != 3 or next_run.said != b"bad image: magic\n" or read_file(way.file) != left:
                 wrong.append(f"a torn image: status {next_run.status}, {next_run.said[:80]!r}")
-            write(way.file, old)
-        elif next_run.status or read(way.file) != (new if what == "old" else self.whole_run(left or b"")):
+            write_file(way.file, old)
+        elif next_run.status or read_file(way.file) != (new if what == "old" else self.whole_run(left or b"")):
             wrong.append(f"the next run ended with status {next_run.status}, or left another image")
         return wrong
 
@@ -172,16 +162,12 @@ def first_bytes(name: str) -> bytes:
 
 def kill_often(program: Program, kills: int, seed: int, room: Optional[str]) -> int:
     """Kills so often, and answers how many faults there were."""
-    with tempfile.TemporaryDirectory(prefix="kills-", dir=room) as folder:
-        os.chdir(folder)
-        try:
-            work = Kills(program, seed)
-            counted = number = 0
-            while counted < kills and number < 10 * kills:
-                number += 1
-                counted += work.turn(number, WAYS[counted % len(WAYS)])
-        finally:
-            os.chdir("/")
+    with new_folder("kills-", room):
+        work = Kills(program, seed)
+        counted = number = 0
+        while counted < kills and number < 10 * kills:
+            number += 1
+            counted += work.turn(number, WAYS[counted % len(WAYS)])
     for it in work.faults:
         print(f"kills: {it}")
     counts = ", ".join(f"{count} {name}" for name, count in sorted(work.counts.items()))

@@ -44,7 +44,6 @@ class Records:
             self.by_page.setdefault(it.record.page, []).append(it.record)
         self.tops = {page: max(it.version for it in records) for page, records in self.by_page.items()}
         self.currents: Dict[int, int] = {}
-        self.keepers: Optional[List[Optional[Record]]] = None
 
     def of_page(self, page: int) -> List[Record]:
         return self.by_page.get(page, [])

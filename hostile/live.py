@@ -47,7 +47,7 @@ class Session:
             return False
         return True
 
-    def more(self, seconds: float = LONGEST) -> bool:
+    def read_more(self, seconds: float = LONGEST) -> bool:
         """Reads what is said next; whether there is anything before the end."""
         ready, _, _ = select.select([self.output], [], [], seconds)
         need(bool(ready), f"no answer in {seconds} seconds")
@@ -55,19 +55,19 @@ class Session:
         self.said += part
         return bool(part)
 
-    def line(self) -> Optional[str]:
-        """The next line that is said, none where the output ends before."""
+    def hear_line(self) -> Optional[str]:
+        """Takes the next line that is said, none where the output ends before."""
         while b"\n" not in self.said:
-            if not self.more():
+            if not self.read_more():
                 return None
         line, _, self.said = self.said.partition(b"\n")
         return line.decode("ascii")
 
-    def reply(self, command: Command) -> Optional[str]:
-        """The reply to a command: that of `explain` is several lines, up to the one that counts them."""
-        lines = [self.line()]
+    def hear_reply(self, command: Command) -> Optional[str]:
+        """Takes the reply to a command: that of `explain` is several lines, up to the one that counts them."""
+        lines = [self.hear_line()]
         while command.verb == "explain" and lines[-1] is not None and lines[-1].startswith("verdict "):
-            lines.append(self.line())
+            lines.append(self.hear_line())
         return None if lines[-1] is None else "\n".join(it for it in lines if it is not None)
 
     def kill(self) -> None:
@@ -78,7 +78,7 @@ class Session:
         if not self.input.closed:
             self.input.close()
         if not self.output.closed:
-            while self.more():
+            while self.read_more():
                 pass
             self.output.close()
         begun = time.monotonic()
@@ -110,7 +110,8 @@ class Talk:
         self.behind: List[Command] = []
 
     def begin(self) -> None:
-        said = self.session.line()
+        """Takes the first line, which says that the image is open."""
+        said = self.session.hear_line()
         need(said == "serving", f"the session begins with {said!r}")
 
     def ask(self, line: bytes) -> bool:
@@ -120,7 +121,7 @@ class Talk:
     def hear(self, line: bytes) -> bool:
         """Takes what is said of a line that was given."""
         command = read_line(line, self.config.page_bytes)
-        said = self.answer(command)
+        said = self.hear_answer(command)
         if said is None:
             return False
         self.heard.append(Heard(line, None if isinstance(command, BadLine) else command, said))
@@ -135,18 +136,18 @@ class Talk:
                 self.behind = [it for it in commands if isinstance(it, Command)]
                 return
 
-    def answer(self, command: Union[Command, BadLine, None]) -> Optional[str]:
-        """What is said of it, none where the program is gone."""
+    def hear_answer(self, command: Union[Command, BadLine, None]) -> Optional[str]:
+        """Takes what is said of a line with this command, none where the program is gone."""
         number = len(self.heard) + 1
         if command is None:
             return ""
         if isinstance(command, BadLine):
-            said = self.session.line()
+            said = self.session.hear_line()
             need(said in (None, f"bad line {number}"), f"line {number} is bad, and {said!r} is said")
             self.had_bad = self.had_bad or said is not None
             return said
         self.in_hand = command
-        reply = self.session.reply(command)
+        reply = self.session.hear_reply(command)
         if reply is None or reply == "desk fault":
             self.session.said = b"" if reply is None else b"desk fault\n" + self.session.said
             return None
@@ -159,13 +160,14 @@ class Talk:
         """What the image may hold where the session broke off here."""
         return arrays_of(self.served.run, [self.in_hand, *self.behind] if self.in_hand else self.behind)
 
-    def ends_strictly(self, data: bytes) -> None:
-        """Whether a session that was closed may have left this file."""
+    def check_closed(self, status: int, data: bytes) -> None:
+        """Looks whether a session that was closed may have ended with this status and left this file."""
+        need(status == (4 if self.had_bad else 0), f"status {status}")
         need(self.in_hand is None, "a command has no reply")
-        self.served.ends_with(data, self.image)
+        self.served.check_saved(data, self.image)
 
-    def ends_in_use(self, data: bytes) -> None:
-        """Whether a session that was not closed may have left it."""
+    def check_in_use(self, data: bytes) -> None:
+        """Looks whether a session that was not closed may have left it."""
         left = read_in_use(data, "")
         need(left.status == 0, f"what is left is refused: {left.said[:100]}")
         assert left.image and left.records

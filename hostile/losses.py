@@ -17,26 +17,22 @@ something else, or where that was not noticed."""
 import argparse
 import collections
 import copy
-import os
 import random
 import shutil
 import sys
-import tempfile
 from typing import Counter, Dict, Iterator, List, NamedTuple, Optional, Set, Tuple
 
 import commands as drawn_commands
 import images as drawn_images
+from calls import STRACE, Event, events
 from grammar import Command
 from image import BPCC, PROTOCOLS, SCC, Image
 from in_use import read_in_use
 from judge import Wrong, need
-from kills import read as read_file
-from kills import write as write_file
 from laws import Pages, Reading, read
 from live import BUILT, Heard, Session, Talk, arrays_of, give_all
 from machine import Run
-from program import found_program
-from calls import STRACE, Event, events
+from program import found_program, new_folder, program_argument, read_file, write_file
 
 IMAGE, TRACE = "d.img", "trace.txt"
 SYNCS = ("sync", "kept", "named")
@@ -172,6 +168,7 @@ class Course:
                 need(self.run.take(it.command, it.said), f"no run is answered {it.said[:200]!r}")
 
     def in_hand(self) -> List[Command]:
+        """The command that was heard and has no reply, if there is one."""
         if self.rest and self.heard_bytes >= self.heard_end + len(self.rest[0].line):
             return [self.rest[0].command] if self.rest[0].command else []
         return []
@@ -183,6 +180,7 @@ class Course:
 
 
 def length_of(it: Heard) -> int:
+    """How many bytes were said of a line."""
     return len(it.said) + 1 if it.said else 0
 
 
@@ -230,7 +228,7 @@ class Losses:
                 if it.endswith(b"\n"):
                     yield it
 
-    def session(self, protocol: int, most: int) -> int:
+    def serve_session(self, protocol: int, most: int) -> int:
         """Serves an image, loses power, and answers how many images a loss left."""
         begun = self.begun(protocol)
         data = bytes(begun.folder.disk.newest)
@@ -242,8 +240,7 @@ class Losses:
         talk.begin()
         give_all(talk, self.lines(talk))
         status = talk.session.end()
-        need(status == 0, f"status {status}")
-        talk.ends_strictly(read_file(IMAGE) or b"")
+        talk.check_closed(status, read_file(IMAGE) or b"")
         with open(TRACE, encoding="ascii") as file:
             traced = Traced(begun, before, talk, list(events(file.read().split("\n"), IMAGE)))
         left: Dict[bytes, Pages] = {}
@@ -282,6 +279,7 @@ class Losses:
         self.killed = Begun(folder, course.now().arrays | arrays)
 
     def look(self, lost: bytes, image: Optional[Image], moment: Moment, left: Dict[bytes, Pages]) -> None:
+        """Looks whether what a loss left is a file that a session opens, with an array of this moment."""
         assert image
         if lost not in left:
             reading = read_in_use(lost, IMAGE)
@@ -315,6 +313,7 @@ class Losses:
                 need(noticed or gone < MANY, f"nothing is wrong without {gone} of its syncs, from number {first} on")
 
     def is_noticed(self, traced: Traced, left: Dict[bytes, Pages]) -> bool:
+        """Whether a loss leaves something that is wrong."""
         try:
             self.lose(traced, left, sys.maxsize)
             return False
@@ -334,13 +333,9 @@ def without(trace: List[Event], apart: int, first: int) -> Iterator[Event]:
 def lose_often(program: str, args: argparse.Namespace) -> int:
     """Looks at so many losses, and answers how many faults there were."""
     work = Losses(program, args)
-    with tempfile.TemporaryDirectory(prefix="losses-", dir=args.room) as folder:
-        os.chdir(folder)
-        try:
-            for protocol in (SCC, BPCC):
-                lose_under(work, protocol, args.losses)
-        finally:
-            os.chdir("/")
+    with new_folder("losses-", args.room):
+        for protocol in (SCC, BPCC):
+            lose_under(work, protocol, args.losses)
     for it in work.faults:
         print(f"losses: {it}")
     for name, count in sorted(work.counts.items()):
@@ -350,12 +345,13 @@ def lose_often(program: str, args: argparse.Namespace) -> int:
 
 
 def lose_under(work: Losses, protocol: int, losses: int) -> None:
+    """Looks at so many losses under a protocol, in as many sessions as they take."""
     name, count, sessions = PROTOCOLS[protocol], 0, 0
     work.lost = work.killed = None
     while count < losses and sessions < losses:
         sessions += 1
         try:
-            count += work.session(protocol, losses - count)
+            count += work.serve_session(protocol, losses - count)
         except Wrong as why:
             work.faults.append(f"{name}, session {sessions}: {why}")
     work.counts[f"{name} losses"], work.counts[f"{name} sessions"] = count, sessions
@@ -363,7 +359,7 @@ def lose_under(work: Losses, protocol: int, losses: int) -> None:
 
 def main() -> int:
     parser = argparse.ArgumentParser(description=__doc__, formatter_class=argparse.RawDescriptionHelpFormatter)
-    parser.add_argument("program", metavar="EXE", nargs="?", default=BUILT)
+    program_argument(parser, BUILT)
     parser.add_argument("--losses", type=int, default=20000)
     parser.add_argument("--seed", type=int, default=1)
     parser.add_argument("--room")

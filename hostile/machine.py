@@ -67,16 +67,16 @@ class Spending:
         self.least = list(self.most)
         self.current = [records.current(it) if records else 0 for it in pages]
 
-    def opened(self, writes: Entries) -> None:
+    def note_open(self, writes: Entries) -> None:
         for page, _ in writes:
             self.most[page] += 1
 
-    def done(self, writes: Entries) -> None:
+    def note_done(self, writes: Entries) -> None:
         for page, _ in writes:
             self.least[page] += 1
             self.current[page] += 1
 
-    def lost_power(self) -> None:
+    def note_loss(self) -> None:
         """A loose record may have gone before, and its mention with it."""
         self.least = list(self.current)
 
@@ -338,16 +338,16 @@ class Run:
                        if said == reply}
         word = reply.split(" ")[0]
         if word == "open":
-            self.spending.opened(command.entries)
+            self.spending.note_open(command.entries)
         elif word in ("cut", "dropped"):
-            self.spending.lost_power()
+            self.spending.note_loss()
         elif word == "moved":
             for it in before.open[:int(reply.split(" ")[1])]:
                 if it.written == len(it.writes) - 1:
-                    self.spending.done(it.writes)
+                    self.spending.note_done(it.writes)
         elif word in ("done", "late"):
             done = before.find(command.number)
-            self.spending.done(done.writes if done else ())
+            self.spending.note_done(done.writes if done else ())
         return bool(self.states)
 
     def open_pages(self) -> FrozenSet[int]:

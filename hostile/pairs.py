@@ -17,12 +17,12 @@ import collections
 import os
 import random
 import sys
-import tempfile
 import time
 from typing import Counter, Dict, List, NamedTuple, Optional
 
 from kills import DEVICE
-from program import Ended, Program, exit_code, found_program, program_argument
+from program import (Ended, Program, exit_code, found_program, new_folder, program_argument, read_file,
+                     write_file)
 
 IMAGE, LINK, SINGLE, SECOND = "images/disk.img", "links/disk", "images/single.img", "names/second"
 FREE = "images/free.img"
@@ -64,8 +64,7 @@ class Pairs:
 
     def write_both(self, image: str) -> List[int]:
         """Writes 0 to both pages, and the files of commands that are the same for each pair."""
-        with open("read.txt", "wb") as file:
-            file.write(b"read 0\nread 1\n")
+        write_file("read.txt", b"read 0\nread 1\n")
         for page in (0, 1):
             self.write_commands(page, 0)
             if self.program.run(["run", image, commands_of(page)]).status:
@@ -73,14 +72,13 @@ class Pairs:
         return [0, 0]
 
     def write_commands(self, page: int, number: int) -> None:
-        with open(commands_of(page), "wb") as file:
-            file.write(b"write 1 %d=%08x\nfinish 1\n" % (page, number))
+        write_file(commands_of(page), b"write 1 %d=%08x\nfinish 1\n" % (page, number))
 
     def format_alone(self, device: List[str]) -> bytes:
         """The image of a device that is formatted at a name at which nothing is, which is free again then."""
         if self.program.run(["format", FREE, *device]).status:
             raise SystemExit("pairs: a format alone was not done")
-        return taken(FREE)
+        return take_file(FREE)
 
     def start(self, page: int, words: List[str]) -> int:
         output = os.open(said_by(page), os.O_WRONLY | os.O_CREAT | os.O_TRUNC, 0o600)
@@ -88,26 +86,26 @@ class Pairs:
         os.close(output)
         return process
 
-    def both(self, first: List[str], second: List[str]) -> List[Ended]:
+    def run_both(self, first: List[str], second: List[str]) -> List[Ended]:
         """Two runs, of which the second begins with the first or while that is at work."""
         begun = time.monotonic()
         processes = [self.start(0, first)]
         time.sleep(max(0.0, self.draw.uniform(-0.5, 0.5) * self.longest))
         processes.append(self.start(1, second))
-        return [end_of(process, page, begun) for page, process in enumerate(processes)]
+        return [wait_for(process, page, begun) for page, process in enumerate(processes)]
 
-    def formats(self, number: int) -> None:
+    def format_both(self, number: int) -> None:
         """Two devices that are formatted at one free name, and what is left there."""
-        ends = self.both(*(["format", FREE, *device] for device in DEVICES))
+        ends = self.run_both(*(["format", FREE, *device] for device in DEVICES))
         wrong = [f"format {at + 1} ended with status {end.status}, {end.said[:80]!r}" for at, end in enumerate(ends)
                  if end.status and not is_refused(end, False)]
         done = [device for device, end in zip(self.devices, ends) if not end.status]
         self.counts[f"{FREE_NAME} {'both done' if len(done) == 2 else 'one refused' if done else 'none done'}"] += 1
-        if taken(FREE) not in done:
+        if take_file(FREE) not in done:
             wrong.append("what is left is no device of one that was done")
         self.faults += [f"pair {number}, {FREE_NAME}: {it}" for it in wrong + left_beside()]
 
-    def found(self, word: str) -> Optional[List[int]]:
+    def read_pages(self, word: str) -> Optional[List[int]]:
         """The numbers in both pages, if the image can be read."""
         ended = self.program.run(["run", word, "read.txt"])
         lines = ended.said.split(b"\n")
@@ -115,12 +113,12 @@ class Pairs:
             return None
         return [int(line.split()[2][:8], 16) for line in lines[:2]]
 
-    def turn(self, number: int, way: Way) -> None:
+    def write_in_both(self, number: int, way: Way) -> None:
         """A pair, and what it leaves."""
         image = IMAGE if way.in_place else SINGLE
         for page in (0, 1):
             self.write_commands(page, number)
-        ends = self.both(*(["run", word, commands_of(page)] for page, word in enumerate((way.first, way.second))))
+        ends = self.run_both(*(["run", word, commands_of(page)] for page, word in enumerate((way.first, way.second))))
         old, wanted = self.pages[image], list(self.pages[image])
         wrong: List[str] = []
         for page, end in enumerate(ends):
@@ -132,19 +130,19 @@ class Pairs:
         self.counts[f"{way.name} {'both done' if done == 2 else 'one refused' if done else 'none done'}"] += 1
         if not done:
             wrong.append("none of both was done")
-        found = self.found(image)
+        found = self.read_pages(image)
         if found != wanted:
             wrong.append(f"the pages have {found} and not {wanted}")
         self.pages[image] = found or wanted
         self.faults += [f"pair {number}, {way.name}: {it}" for it in wrong + left_beside()]
 
 
-def taken(name: str) -> bytes:
-    """The bytes of a file, which is removed."""
-    with open(name, "rb") as file:
-        found = file.read()
-    os.remove(name)
-    return found
+def take_file(name: str) -> bytes:
+    """Removes a file, and answers its bytes, none where it is not there."""
+    found = read_file(name)
+    if found is not None:
+        os.remove(name)
+    return found or b""
 
 
 def left_beside() -> List[str]:
@@ -161,10 +159,9 @@ def said_by(page: int) -> str:
     return f"said{page}.txt"
 
 
-def end_of(process: int, page: int, begun: float) -> Ended:
+def wait_for(process: int, page: int, begun: float) -> Ended:
     _, status = os.waitpid(process, 0)
-    with open(said_by(page), "rb") as file:
-        return Ended(exit_code(status), file.read(), time.monotonic() - begun)
+    return Ended(exit_code(status), read_file(said_by(page)) or b"", time.monotonic() - begun)
 
 
 def is_refused(end: Ended, in_place: bool) -> bool:
@@ -174,17 +171,13 @@ def is_refused(end: Ended, in_place: bool) -> bool:
 
 def pair_often(program: Program, pairs: int, seed: int, room: Optional[str]) -> int:
     """Starts so many pairs, and answers how many faults there were."""
-    with tempfile.TemporaryDirectory(prefix="pairs-", dir=room) as folder:
-        os.chdir(folder)
-        try:
-            work = Pairs(program, seed)
-            for number in range(1, pairs + 1):
-                if number % 4:
-                    work.turn(number, WAYS[number % len(WAYS)])
-                else:
-                    work.formats(number)
-        finally:
-            os.chdir("/")
+    with new_folder("pairs-", room):
+        work = Pairs(program, seed)
+        for number in range(1, pairs + 1):
+            if number % 4:
+                work.write_in_both(number, WAYS[number % len(WAYS)])
+            else:
+                work.format_both(number)
     for it in work.faults:
         print(f"pairs: {it}")
     met = sum(count for name, count in work.counts.items() if name.endswith("refused"))

@@ -18,6 +18,7 @@ HERE = os.path.dirname(os.path.abspath(__file__))
 
 
 class Plant(NamedTuple):
+    """A mistake: what stands in a file, and what is put there."""
     file: str
     old: str
     new: str
@@ -62,6 +63,7 @@ PLANTS = (
 
 
 def is_noticed(program: str, plant: Plant, seed: int, number: int) -> bool:
+    """Whether a sweep with this mistake differs from the program."""
     with tempfile.TemporaryDirectory(prefix="plants-") as folder:
         copy = os.path.join(folder, "hostile")
         shutil.copytree(HERE, copy, ignore=shutil.ignore_patterns("__pycache__", "differ"))

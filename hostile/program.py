@@ -1,20 +1,24 @@
-"""Runs of the built program: its words, its status, what it said, and how long it took."""
+"""Runs of the built program: its words, its status, what it said, and how long it took. And files for them."""
 import argparse
+import contextlib
 import os
 import select
 import signal
+import tempfile
 import time
-from typing import Dict, List, NamedTuple, Optional
+from typing import Dict, Iterator, List, NamedTuple, Optional
 
 TOP = os.path.dirname(os.path.dirname(os.path.abspath(__file__)))
 BUILT = os.path.join(TOP, "crates", "txflash", "out", "txflash")
 LONGEST = 10.0
 KILLED_AFTER = 60.0
+# Where files cost no disk, if there is such a place.
+MEMORY = "/dev/shm" if os.path.isdir("/dev/shm") else None
 
 
-def program_argument(parser: argparse.ArgumentParser) -> None:
+def program_argument(parser: argparse.ArgumentParser, built: str = BUILT) -> None:
     """Lets the words name the built program. Where they do not, it is that of this repository."""
-    parser.add_argument("program", metavar="EXE", nargs="?", default=BUILT)
+    parser.add_argument("program", metavar="EXE", nargs="?", default=built)
 
 
 def found_program(path: str) -> str:
@@ -69,3 +73,28 @@ def read_all(reader: int, end: float, process: int) -> bytes:
 
 def exit_code(status: int) -> int:
     return -os.WTERMSIG(status) if os.WIFSIGNALED(status) else os.WEXITSTATUS(status)
+
+
+def read_file(name: str) -> Optional[bytes]:
+    """The bytes of a file, none where it is not there."""
+    try:
+        with open(name, "rb") as file:
+            return file.read()
+    except FileNotFoundError:
+        return None
+
+
+def write_file(name: str, data: bytes) -> None:
+    with open(name, "wb") as file:
+        file.write(data)
+
+
+@contextlib.contextmanager
+def new_folder(prefix: str, room: Optional[str] = None) -> Iterator[str]:
+    """Goes into a new folder, which is removed at the end."""
+    with tempfile.TemporaryDirectory(prefix=prefix, dir=room) as folder:
+        os.chdir(folder)
+        try:
+            yield folder
+        finally:
+            os.chdir("/")

@@ -10,7 +10,6 @@ import argparse
 import os
 import random
 import sys
-import tempfile
 from typing import Callable, Dict, List, NamedTuple, Optional, Tuple
 
 import commands
@@ -18,7 +17,7 @@ import grammar
 import keys
 import words as drawn_words
 from image import DEFAULT, SCC, Config, blank_image, spell_image
-from program import TOP, Program, found_program, program_argument
+from program import MEMORY, TOP, Program, found_program, new_folder, program_argument, write_file
 
 sys.path.append(os.path.join(TOP, "tools"))
 
@@ -95,10 +94,8 @@ def try_files(program: Optional[Program], count: int, seed: int) -> List[str]:
     differ = []
     for number in range(count):
         data, call = draw_file(random.Random(f"{seed} reasons {number}"), number)
-        with open(IMAGE, "wb") as file:
-            file.write(spell_image(blank_image(WIDE)))
-        with open(COMMANDS, "wb") as file:
-            file.write(data)
+        write_file(IMAGE, spell_image(blank_image(WIDE)))
+        write_file(COMMANDS, data)
         mistake = mistakes.first_mistake(data, call.forms, call.page_bytes)
         line = mistake.number if mistake else None
         said = line_said(program, call) if program else call.wanted
@@ -145,14 +142,12 @@ def main() -> int:
     parser.add_argument("--words", type=int, default=1000)
     parser.add_argument("--seed", type=int, default=1)
     parser.add_argument("--alone", action="store_true")
-    parser.add_argument("--room", default="/dev/shm" if os.path.isdir("/dev/shm") else None)
+    parser.add_argument("--room", default=MEMORY)
     args = parser.parse_args()
     program = None if args.alone else Program(found_program(args.program))
-    with tempfile.TemporaryDirectory(prefix="reasons-", dir=args.room) as folder:
-        os.chdir(folder)
+    with new_folder("reasons-", args.room):
         differ = try_files(program, args.files, args.seed)
         differ += try_words(program, args.words, args.seed) if program else []
-        os.chdir("/")
     for line in differ[:20]:
         print(f"reasons: {line}")
     count = args.words if program else 0

@@ -2,7 +2,7 @@
 """Talks with the program flash_serve over two pipes, kills it, takes its file and its output away, and looks at what it
 said and left.
 
-    serve.py [EXE] [--turns N] [--kills N] [--seed S] [--room FOLDER] [--txflash EXE]
+    serve.py [EXE] [--turns N] [--kills N] [--seed S] [--room FOLDER] [--txflash EXE2]
 
 N turns, by kind in turn, and N kills under each protocol. A turn draws a sound image, as a file that a session leaves
 or as an image file, and lines, some of which are bad. Each reply must be one that `machine.py` allows, and comes before
@@ -19,7 +19,6 @@ import shutil
 import signal
 import subprocess
 import sys
-import tempfile
 import time
 from typing import Optional
 
@@ -27,12 +26,10 @@ import images as drawn_images
 from image import BPCC, DEFAULT, MAX_FILE, SCC, Image, blank_image, read_image, spell_image
 from in_use import changed_live, filled, read_in_use, spell_live
 from judge import need
-from kills import read as read_file
-from kills import write as write_file
 from laws import read
 from live import BUILT, Session, Talk, give_all
 from program import BUILT as TXFLASH
-from program import found_program
+from program import found_program, new_folder, program_argument, read_file, write_file
 from turns import CALLS, COMMANDS, IMAGE, Turns, config_of, image_of
 
 PAGE = 4096
@@ -50,11 +47,11 @@ def blank_file() -> bytes:
 
 
 class Kinds(Turns):
-    """What each kind of turn does."""
+    """What each kind of turn does, and what came of it."""
 
-    def whole(self) -> str:
-        """The input ends, behind a line feed or not."""
-        talk = self.talk()
+    def end_input(self) -> str:
+        """Ends its input, behind a line feed or not."""
+        talk = self.begin_talk()
         lines = self.lines(talk.config)
         part = self.draw.choice((b"", b"", b"stats", b"#", b" ", b"finish 1"))
         if self.draw.random() < 0.3 and sum(map(len, lines)) < 30000:
@@ -68,36 +65,35 @@ class Kinds(Turns):
         need(not part or talk.hear(part) and talk.had_bad, "a part of a line was served")
         status = talk.session.end()
         need(talk.session.said == b"", f"{talk.session.said[:80]!r} is said at the end")
-        need(status == (4 if talk.had_bad else 0), f"status {status}")
-        talk.ends_strictly(read_file(IMAGE) or b"")
+        talk.check_closed(status, read_file(IMAGE) or b"")
         return "with a bad line" if talk.had_bad else "without a bad line"
 
-    def killed_scc(self) -> str:
-        return self.killed(SCC)
+    def kill_scc(self) -> str:
+        return self.kill(SCC)
 
-    def killed_bpcc(self) -> str:
-        return self.killed(BPCC)
+    def kill_bpcc(self) -> str:
+        return self.kill(BPCC)
 
-    def killed(self, protocol: int) -> str:
-        """It is killed, mostly while it is at work. Where it ended before that, another one is begun."""
+    def kill(self, protocol: int) -> str:
+        """Kills it, mostly while it is at work. Where it ended before that, another one is begun."""
         found = ""
         while not found:
-            how = self.draw.choice((*[self.killed_at_work] * 3, *[self.killed_in_call] * 3, self.killed_in_opening,
-                                    self.killed_in_closing))
+            how = self.draw.choice((*[self.kill_at_work] * 3, *[self.kill_in_call] * 3, self.kill_in_opening,
+                                    self.kill_in_closing))
             found = how(protocol)
         return found
 
-    def killed_in_call(self, protocol: int) -> str:
-        """When it asks for something of the system."""
+    def kill_in_call(self, protocol: int) -> str:
+        """Kills it when it asks for something of the system."""
         call = self.draw.choice(("pwrite64", "fdatasync", "write", *CALLS))
         status, talk = self.break_in(call, "signal=SIGKILL", protocol)
         if status in (0, 4):
             return ""
         need(status == -signal.SIGKILL and not talk.session.said, f"status {status}, {talk.session.said[:80]!r}")
-        return f"at {call if call in ('fsync', 'rename') else 'another call'}, {self.left_in_use(talk)}"
+        return f"at {call if call in ('fsync', 'rename') else 'another call'}, {self.close_left(talk)}"
 
-    def failing(self) -> str:
-        """A call of the file, of the new one, or of their folder fails."""
+    def fail_call(self) -> str:
+        """Has a call of the file, of the new one, or of their folder fail."""
         call, error = self.draw.choice((("pwrite64", "ENOSPC"), ("pwrite64", "EIO"), ("fdatasync", "EIO"),
                                         ("fsync", "EIO"), ("rename", "EIO"), ("rename", "EXDEV"), ("fchmod", "EPERM"),
                                         ("lchown", "EPERM")))
@@ -106,35 +102,36 @@ class Kinds(Turns):
             return "never"
         need(status == 5 and talk.session.said == DESK_FAULT, f"status {status}, {talk.session.said[:80]!r}")
         need(not self.beside(), "a file is left beside the image")
-        return f"{call}, {self.left_in_use(talk)}"
+        return f"{call}, {self.close_left(talk)}"
 
-    def killed_in_opening(self, protocol: int) -> str:
-        data = self.image(protocol)
+    def kill_in_opening(self, protocol: int) -> str:
+        """Kills it soon after it was started."""
+        data = self.put_image(protocol)
         talk = Talk(Session(self.program, [IMAGE]), config_of(data), read(data, IMAGE))
         time.sleep(self.draw.uniform(0, 0.003))
         talk.session.kill()
         status = talk.session.end()
         need(status == -signal.SIGKILL, f"status {status}")
         need(read_in_use(read_file(IMAGE) or b"", IMAGE).image == read(data, IMAGE).image, "the image has changed")
-        self.left_in_use(talk)
+        self.close_left(talk)
         return "in its opening, or before a line"
 
-    def killed_in_closing(self, protocol: int) -> str:
-        talk = self.talk(protocol=protocol)
+    def kill_in_closing(self, protocol: int) -> str:
+        """Kills it soon after its input ended."""
+        talk = self.begin_talk(protocol=protocol)
         give_all(talk, self.lines(talk.config))
         talk.session.input.close()
         time.sleep(self.draw.uniform(0, 0.001))
         talk.session.kill()
         status = talk.session.end()
         if status == -signal.SIGKILL:
-            return f"in its closing, {', '.join(self.left_in_use(talk).split(', ')[1:])}"
-        need(status == (4 if talk.had_bad else 0), f"status {status}")
-        talk.ends_strictly(read_file(IMAGE) or b"")
+            return f"in its closing, {', '.join(self.close_left(talk).split(', ')[1:])}"
+        talk.check_closed(status, read_file(IMAGE) or b"")
         return ""
 
-    def killed_at_work(self, protocol: int) -> str:
-        """On one line, or on lines that were given all at once."""
-        talk = self.talk(protocol=protocol)
+    def kill_at_work(self, protocol: int) -> str:
+        """Kills it on one line, or on lines that were given all at once."""
+        talk = self.begin_talk(protocol=protocol)
         lines = [it for _ in range(6) for it in self.lines(talk.config)] or [b"stats\n"]
         first = self.draw.randrange(len(lines))
         give_all(talk, lines[:first])
@@ -145,11 +142,11 @@ class Kinds(Turns):
         talk.hear_all(last)
         status = talk.session.end()
         need(status == -signal.SIGKILL, f"status {status}")
-        return self.left_in_use(talk)
+        return self.close_left(talk)
 
-    def unheard(self) -> str:
-        """Nobody takes what it says. The command is done, and the file is closed."""
-        talk = self.talk()
+    def close_output(self) -> str:
+        """Takes nothing that it says any more. The command is done, and the file is closed."""
+        talk = self.begin_talk()
         give_all(talk, self.lines(talk.config))
         talk.session.output.close()
         page = self.draw.randrange(talk.config.logical)
@@ -163,9 +160,9 @@ class Kinds(Turns):
              f"what is left is refused or another array: {left.said[:80]}")
         return "and closed"
 
-    def limited(self) -> str:
-        """The file cannot be written past some byte from some moment on."""
-        talk = self.talk(ignore_limit)
+    def limit_file(self) -> str:
+        """Limits from some moment on how far the file can be written."""
+        talk = self.begin_talk(ignore_limit)
         lines = [it for _ in range(3) for it in self.lines(talk.config)]
         first = self.draw.randrange(len(lines) + 1)
         give_all(talk, lines[:first])
@@ -174,24 +171,24 @@ class Kinds(Turns):
         give_all(talk, lines[first:])
         status = talk.session.end()
         if status != 5:
-            need(status == (4 if talk.had_bad else 0), f"status {status}")
-            talk.ends_strictly(read_file(IMAGE) or b"")
+            talk.check_closed(status, read_file(IMAGE) or b"")
             return "and nothing failed"
         need(talk.session.said == DESK_FAULT, f"{talk.session.said[:80]!r} is said at the end")
-        return self.left_in_use(talk)
+        return self.close_left(talk)
 
-    def full(self) -> str:
-        """The disk has room for the new file, or not."""
+    def fill_disk(self) -> str:
+        """Fills its disk, which has room for the new file then, or not."""
         if os.getuid():
             return "not tried: this is for the superuser"
         os.makedirs("disk", exist_ok=True)
         subprocess.run(["mount", "-t", "tmpfs", "-o", "size=1m", "tmpfs", "disk"], check=True)
         try:
-            return self.with_room(self.image(), "disk/" + IMAGE)
+            return self.serve_on_full(self.put_image(), "disk/" + IMAGE)
         finally:
             subprocess.run(["umount", "disk"], check=True)
 
-    def with_room(self, data: bytes, name: str) -> str:
+    def serve_on_full(self, data: bytes, name: str) -> str:
+        """Serves an image on a disk of which some pages are free."""
         write_file(name, data)
         wanted = -(-len(spell_live(image_of(data))) // PAGE)
         left = self.draw.randrange(2 * wanted)
@@ -201,8 +198,7 @@ class Kinds(Turns):
             talk.begin()
             give_all(talk, self.lines(talk.config))
             status = talk.session.end()
-            need(status == (4 if talk.had_bad else 0), f"status {status}")
-            talk.ends_strictly(read_file(name) or b"")
+            talk.check_closed(status, read_file(name) or b"")
             return "with room"
         status = talk.session.end()
         need(status == 5 and talk.session.said == DESK_FAULT, f"status {status}, {talk.session.said[:80]!r}")
@@ -213,9 +209,9 @@ class Kinds(Turns):
         need(read_file(name) == data, "the file has changed")
         return "without room"
 
-    def taken(self) -> str:
-        """Names of new files are taken, some or all, by a file, a folder or a link: each stays as it is."""
-        data, last = self.image(), self.draw.choice((1, 2, 5, 98, 99))
+    def take_names(self) -> str:
+        """Takes names of new files, some or all, by a file, a folder or a link: each stays as it is."""
+        data, last = self.put_image(), self.draw.choice((1, 2, 5, 98, 99))
         names = [f"{IMAGE}.saving{number if number > 1 else ''}" for number in range(1, last + 1)]
         for it in names:
             self.draw.choice((os.mkdir, lambda name: os.symlink("nothing", name), lambda name: os.symlink(IMAGE, name),
@@ -227,8 +223,7 @@ class Kinds(Turns):
             give_all(talk, self.lines(talk.config))
         status = talk.session.end()
         if last < 99:
-            need(status == (4 if talk.had_bad else 0), f"status {status}")
-            talk.ends_strictly(read_file(IMAGE) or b"")
+            talk.check_closed(status, read_file(IMAGE) or b"")
         else:
             need(status == 5 and talk.session.said == DESK_FAULT, f"status {status}, {talk.session.said[:80]!r}")
             need(read_file(IMAGE) == before, "the file has changed")
@@ -238,10 +233,10 @@ class Kinds(Turns):
         need(not os.path.lexists("nothing"), "a link was followed")
         return "all" if last == 99 else "some"
 
-    def moved(self) -> str:
-        """The file gets another name meanwhile, or a second one, and another file may be put at its own: the session
-        goes on, touches no other file, and leaves its own where it went."""
-        talk, put = self.talk(), self.draw.choice((None, b"another file", blank_file(), "linked"))
+    def move_file(self) -> str:
+        """Gives the file another name meanwhile, or a second one, and may put another file at its own: the session goes
+        on, touches no other file, and leaves its own where it went."""
+        talk, put = self.begin_talk(), self.draw.choice((None, b"another file", blank_file(), "linked"))
         lines = self.lines(talk.config)
         half = self.draw.randrange(len(lines) + 1)
         give_all(talk, lines[:half])
@@ -259,11 +254,11 @@ class Kinds(Turns):
         if os.path.exists(MOVED):
             os.remove(MOVED)
         said = "a second name" if put == "linked" else "another file" if put else "no file"
-        return f"{said}, {self.left_in_use(talk)}"
+        return f"{said}, {self.close_left(talk)}"
 
-    def named(self) -> str:
-        """The image is named by a link, or has a second name: the link stays, and two names are refused."""
-        data = self.image()
+    def link_image(self) -> str:
+        """Names the image by a link, or gives it a second name: the link stays, and two names are refused."""
+        data = self.put_image()
         before = read_file(IMAGE)
         os.makedirs("links", exist_ok=True)
         if self.draw.random() < 0.5:
@@ -272,9 +267,8 @@ class Kinds(Turns):
             talk.begin()
             give_all(talk, self.lines(talk.config))
             status = talk.session.end()
-            need(status == (4 if talk.had_bad else 0), f"status {status}")
             need(os.readlink("links/disk") == "../" + IMAGE and os.listdir("links") == ["disk"], "the link has changed")
-            talk.ends_strictly(read_file(IMAGE) or b"")
+            talk.check_closed(status, read_file(IMAGE) or b"")
             os.remove("links/disk")
             return "by a link"
         os.link(IMAGE, "links/second")
@@ -284,9 +278,9 @@ class Kinds(Turns):
         os.remove("links/second")
         return "twice"
 
-    def second(self) -> str:
-        """A second session, and a run, while the first is at work: both are refused, and change nothing."""
-        talk = self.talk()
+    def start_second(self) -> str:
+        """Starts a second session, and a run, while the first is at work: both are refused, and change nothing."""
+        talk = self.begin_talk()
         lines = self.lines(talk.config)
         half = len(lines) // 2
         give_all(talk, lines[:half])
@@ -295,20 +289,19 @@ class Kinds(Turns):
         status = second.end()
         need(status == 15 and second.said == b"in use\n", f"a second session: status {status}, {second.said[:80]!r}")
         if self.txflash:
-            self.commands()
+            self.write_commands()
             ended = self.txflash.run(["run", IMAGE, COMMANDS])
             need(ended.status == 3 and ended.said == b"bad image: magic\n",
                  f"a run beside it: status {ended.status}, {ended.said[:80]!r}")
         need(read_file(IMAGE) == before, "the file has changed")
         give_all(talk, lines[half:])
         status = talk.session.end()
-        need(status == (4 if talk.had_bad else 0), f"status {status}")
-        talk.ends_strictly(read_file(IMAGE) or b"")
+        talk.check_closed(status, read_file(IMAGE) or b"")
         return "refused"
 
-    def refused(self) -> str:
-        """Any image, and any live image file: it is refused as `explain` refuses an image, but for the own bytes of
-        empty slots, and then its file stays; or it is served. One that is not sound is an image file then."""
+    def open_any(self) -> str:
+        """Opens any image, or any live image file. It is refused as `explain` refuses an image, but for the own bytes
+        of empty slots, and then its file stays; or it is served. One that is not sound is an image file then."""
         data = drawn_images.draw_image(self.draw.randrange(1 << 30), self.number).data
         image = read_image(filled(data))
         is_live = isinstance(image, Image) and self.draw.random() < 0.5
@@ -324,20 +317,20 @@ class Kinds(Turns):
         need(read_image(left) == reading.image if reading.image else left == data, "the file has changed")
         return f"{'live ' if is_live else ''}status {status}"
 
-    def longest(self) -> str:
-        """Lines of the greatest length and of a byte more, and a last one of more without a line feed."""
-        talk = self.talk()
+    def give_longest(self) -> str:
+        """Gives lines of the greatest length and of a byte more, and a last one of more without a line feed."""
+        talk = self.begin_talk()
         lines = [b"#" * more + b"\n" for more in (MAX_FILE, MAX_FILE + 1)]
         give_all(talk, [*lines, b"stats\n", b" " * MAX_FILE + b"stats\n", b"write 1 0=01\n", b"finish 1\n"])
         need(len(talk.heard) == 6 and talk.commands == 3, "a long line ended the session")
         need(talk.session.give(b"#" * (MAX_FILE + 2)), "the program went")
         talk.session.input.close()
-        need(talk.hear(b"#") and talk.session.end() == 4, "a part of a long line was served")
-        talk.ends_strictly(read_file(IMAGE) or b"")
+        need(talk.hear(b"#") and talk.had_bad, "a part of a long line was served")
+        talk.check_closed(talk.session.end(), read_file(IMAGE) or b"")
         return "lines"
 
-    def words(self) -> str:
-        """Words that are not those of the program, and files that are not there."""
+    def give_words(self) -> str:
+        """Gives words that are not those of the program, and files that are not there."""
         words, status, said = self.draw.choice((
             ([], 1, b"bad words\n"), ([""], 1, b"bad words\n"), ([IMAGE, IMAGE], 1, b"bad words\n"),
             (["nothing"], 2, b"no file nothing\n"), (["."], 5, DESK_FAULT), (["/dev/null/x"], 5, DESK_FAULT)))
@@ -347,25 +340,21 @@ class Kinds(Turns):
         return f"status {status}"
 
 
-KINDS = ("whole", "whole", "unheard", "limited", "failing", "failing", "second", "refused", "refused", "words", "full",
-         "taken", "moved", "named")
+KINDS = ("end_input", "end_input", "close_output", "limit_file", "fail_call", "fail_call", "start_second", "open_any",
+         "open_any", "give_words", "fill_disk", "take_names", "move_file", "link_image")
 
 
 def talk_often(program: str, txflash: Optional[str], args: argparse.Namespace) -> int:
     """Takes so many turns, and answers how many faults there were."""
-    with tempfile.TemporaryDirectory(prefix="serve-", dir=args.room) as folder:
-        os.chdir(folder)
-        try:
-            turns = Kinds(program, txflash, args.seed)
-            if args.turns:
-                turns.turn("longest")
-            for number in range(args.turns):
-                turns.turn(KINDS[number % len(KINDS)])
-            for _ in range(args.kills):
-                turns.turn("killed_scc")
-                turns.turn("killed_bpcc")
-        finally:
-            os.chdir("/")
+    turns = Kinds(program, txflash, args.seed)
+    with new_folder("serve-", args.room):
+        if args.turns:
+            turns.take_turn("give_longest")
+        for number in range(args.turns):
+            turns.take_turn(KINDS[number % len(KINDS)])
+        for _ in range(args.kills):
+            turns.take_turn("kill_scc")
+            turns.take_turn("kill_bpcc")
     for it in turns.faults:
         print(f"serve: {it}")
     for name, count in sorted(turns.counts.items()):
@@ -376,7 +365,7 @@ def talk_often(program: str, txflash: Optional[str], args: argparse.Namespace) -
 
 def main() -> int:
     parser = argparse.ArgumentParser(description=__doc__, formatter_class=argparse.RawDescriptionHelpFormatter)
-    parser.add_argument("program", metavar="EXE", nargs="?", default=BUILT)
+    program_argument(parser, BUILT)
     parser.add_argument("--turns", type=int, default=400)
     parser.add_argument("--kills", type=int, default=200)
     parser.add_argument("--seed", type=int, default=1)

@@ -17,7 +17,6 @@ import random
 import re
 import shutil
 import sys
-import tempfile
 import time
 from typing import Counter, List, NamedTuple, Optional
 
@@ -33,7 +32,8 @@ import words as drawn_words
 from image import DEFAULT, PROTOCOLS, blank_image, spell_image
 from judge import Wrong, check_end, check_explain, check_retire, check_run, check_said, check_try, need
 from laws import Reading, read
-from program import Ended, Program, found_program, program_argument
+from program import (MEMORY, Ended, Program, found_program, new_folder, program_argument, read_file,
+                     write_file)
 
 IMAGE, COMMANDS, REPORT, OTHER = "d.img", "c.txt", "r.txt", "e.img"
 WANTED, TOLD = 100, 20
@@ -64,21 +64,8 @@ class Found(NamedTuple):
     slowest: float
 
 
-def read_file(name: str) -> Optional[bytes]:
-    try:
-        with open(name, "rb") as file:
-            return file.read()
-    except FileNotFoundError:
-        return None
-
-
-def write_file(name: str, data: bytes) -> None:
-    with open(name, "wb") as file:
-        file.write(data)
-
-
 class Sweeper:
-    """One process, in a folder of its own."""
+    """What one process draws, runs, compares and counts."""
 
     def __init__(self, job: Job) -> None:
         self.job, self.program = job, Program(job.program)
@@ -91,12 +78,13 @@ class Sweeper:
         self.counts["runs"] += 1
         return ended
 
-    def replied(self, replies: List[str]) -> None:
+    def count_replies(self, replies: List[str]) -> None:
+        """Counts replies by their first words."""
         for it in replies:
             words = it.split(" ")
             self.counts[f"reply {' '.join(words[:2]) if words[0] == 'refused' else words[0]}"] += 1
 
-    def told(self, what: str, number: int, why: str, files: List[str]) -> None:
+    def tell_difference(self, what: str, number: int, why: str, files: List[str]) -> None:
         """Tells what differs, and keeps the files of it. Of many only the first are told."""
         self.differ += 1
         if self.differ > TOLD:
@@ -107,7 +95,8 @@ class Sweeper:
             shutil.copyfile(name, os.path.join(folder, os.path.basename(name)))
         print(f"sweep: {what} {number} of seed {self.job.seed} differs: {why}; see {folder}", flush=True)
 
-    def image(self, number: int) -> None:
+    def try_image(self, number: int) -> None:
+        """An image of any kind, which `explain` and `run` are given."""
         drawn = drawn_images.draw_image(self.job.seed, number)
         draw = random.Random(f"{self.job.seed} image commands {number}")
         reading = read(drawn.data, IMAGE)
@@ -123,19 +112,21 @@ class Sweeper:
         try:
             check_explain(reading, self.run(["explain", IMAGE]), drawn.data, read_file(IMAGE))
             ended = self.run(["run", IMAGE, COMMANDS])
-            self.replied(check_run(reading, drawn.data, script, COMMANDS, ended, read_file(IMAGE)))
+            self.count_replies(check_run(reading, drawn.data, script, COMMANDS, ended, read_file(IMAGE)))
             need_files(script is not None)
         except Wrong as wrong:
-            self.told("image", number, str(wrong), ["old/" + IMAGE, *([COMMANDS] if script is not None else [])])
+            files = ["old/" + IMAGE, *([COMMANDS] if script is not None else [])]
+            self.tell_difference("image", number, str(wrong), files)
 
-    def command_file(self, number: int) -> None:
+    def try_command_file(self, number: int) -> None:
+        """A file of commands, on a fresh device or on a sound image."""
         draw = random.Random(f"{self.job.seed} commands {number}")
         if draw.random() < 0.5:
-            self.tried(number, draw)
+            self.serve_by_try(number, draw)
         else:
-            self.served(number, draw)
+            self.serve_by_run(number, draw)
 
-    def tried(self, number: int, draw: random.Random) -> None:
+    def serve_by_try(self, number: int, draw: random.Random) -> None:
         drawn = drawn_commands.draw_commands(draw, DEFAULT, number)
         self.counts[f"commands {drawn.kind}"] += 1
         write_file(COMMANDS, drawn.data)
@@ -143,12 +134,12 @@ class Sweeper:
         try:
             ended = self.run(["try", COMMANDS])
             self.counts[f"commands status {ended.status}"] += 1
-            self.replied(check_try(drawn.data, COMMANDS, ended))
+            self.count_replies(check_try(drawn.data, COMMANDS, ended))
             need(sorted(os.listdir(".")) == [COMMANDS, "old"], "other files are there")
         except Wrong as wrong:
-            self.told("commands", number, str(wrong), [COMMANDS])
+            self.tell_difference("commands", number, str(wrong), [COMMANDS])
 
-    def served(self, number: int, draw: random.Random) -> None:
+    def serve_by_run(self, number: int, draw: random.Random) -> None:
         data = drawn_images.sound_image(draw)
         reading = read(data, IMAGE)
         assert reading.image
@@ -160,12 +151,12 @@ class Sweeper:
         try:
             ended = self.run(["run", IMAGE, COMMANDS])
             self.counts[f"commands status {ended.status}"] += 1
-            self.replied(check_run(reading, data, drawn.data, COMMANDS, ended, read_file(IMAGE)))
+            self.count_replies(check_run(reading, data, drawn.data, COMMANDS, ended, read_file(IMAGE)))
             need_files(True)
         except Wrong as wrong:
-            self.told("commands", number, str(wrong), ["old/" + IMAGE, COMMANDS])
+            self.tell_difference("commands", number, str(wrong), ["old/" + IMAGE, COMMANDS])
 
-    def finding(self, number: int) -> None:
+    def try_finding(self, number: int) -> None:
         """An image with a report, or with another image; each of the two files stays as it is."""
         draw = random.Random(f"{self.job.seed} finding {number}")
         any_kind = draw.random() < 0.3
@@ -193,11 +184,11 @@ class Sweeper:
             need(all(read_file(it) == held for it, held in files.items()), "a file has changed")
             need(sorted(os.listdir(".")) == sorted([*files, "old"]), "other files are there")
         except Wrong as wrong:
-            self.told("finding", number, f"{words}: {wrong}", list(files))
+            self.tell_difference("finding", number, f"{words}: {wrong}", list(files))
         for it in (IMAGE, REPORT, OTHER):
             remove(it)
 
-    def key_script(self, number: int) -> None:
+    def try_key_script(self, number: int) -> None:
         """A key script on an image with pages of keys, or nearly so."""
         draw = random.Random(f"{self.job.seed} keys {number}")
         keys = drawn_keys.draw_keys(draw)
@@ -216,9 +207,9 @@ class Sweeper:
                     self.counts[f"keys {re.sub(r' [0-9a-f]+(?![a-z])| -', '', it)}"] += 1
             need_files(True)
         except Wrong as wrong:
-            self.told("keys", number, str(wrong), ["old/" + IMAGE, COMMANDS])
+            self.tell_difference("keys", number, str(wrong), ["old/" + IMAGE, COMMANDS])
 
-    def retirement(self, number: int) -> None:
+    def try_retirement(self, number: int) -> None:
         """A block of an image, of which it may have no such block, or may not retire it."""
         draw = random.Random(f"{self.job.seed} retirement {number}")
         any_kind = draw.random() < 0.3
@@ -234,9 +225,10 @@ class Sweeper:
             self.counts[f"retire {check_retire(reading, data, block, ended, read_file(IMAGE))}"] += 1
             need_files(False)
         except Wrong as wrong:
-            self.told("retirement", number, f"block {block}: {wrong}", ["old/" + IMAGE])
+            self.tell_difference("retirement", number, f"block {block}: {wrong}", ["old/" + IMAGE])
 
-    def word_list(self, number: int) -> None:
+    def try_words(self, number: int) -> None:
+        """The words of a call, or nearly so."""
         draw = random.Random(f"{self.job.seed} words {number}")
         how = draw.random()
         remove(IMAGE)
@@ -244,28 +236,29 @@ class Sweeper:
         try:
             if how < 0.6:
                 words = ["format", *drawn_words.draw_format(draw, IMAGE)]
-                self.said(words, drawn_words.wanted_format(words[1:]))
+                self.check_words(words, drawn_words.wanted_format(words[1:]))
             elif how < 0.9:
                 words = ["drive", *drawn_words.draw_drive(draw)]
-                self.driven(words)
+                self.check_drive(words)
             else:
                 words = drawn_words.draw_other(draw)
-                self.said(words, drawn_words.BAD_WORDS)
+                self.check_words(words, drawn_words.BAD_WORDS)
         except Wrong as wrong:
-            self.told("words", number, f"{words}: {wrong}", [])
+            self.tell_difference("words", number, f"{words}: {wrong}", [])
 
-    def said(self, words: List[str], wanted: drawn_words.Wanted) -> None:
+    def check_words(self, words: List[str], wanted: drawn_words.Wanted) -> None:
+        """Looks at what the program says to words, and at the image that it leaves."""
         ended = self.run(words)
         check_end(ended)
         self.counts[f"words status {ended.status}"] += 1
         check_said(ended, wanted.status, wanted.said)
         need(read_file(IMAGE) == wanted.image, "the image differs")
 
-    def driven(self, words: List[str]) -> None:
+    def check_drive(self, words: List[str]) -> None:
         """The summary must be that of the replies to the same commands on a blank device."""
         generated = drawn_words.read_drive(words[1:])
         if generated is None:
-            self.said(words, drawn_words.BAD_WORDS)
+            self.check_words(words, drawn_words.BAD_WORDS)
             return
         lines = drawn_words.generated_commands(generated)
         data, blank = "".join(f"{it}\n" for it in lines).encode(), spell_image(blank_image(generated.config()))
@@ -274,7 +267,7 @@ class Sweeper:
         ended = self.run(["run", IMAGE, COMMANDS])
         replies = check_run(read(blank, IMAGE), blank, data, COMMANDS, ended, read_file(IMAGE))
         remove(IMAGE)
-        self.said(words, drawn_words.Wanted(0, drawn_words.summary(generated, len(lines), replies)))
+        self.check_words(words, drawn_words.Wanted(0, drawn_words.summary(generated, len(lines), replies)))
 
 
 def image_commands(draw: random.Random, reading: Reading) -> Optional[bytes]:
@@ -289,6 +282,7 @@ def image_commands(draw: random.Random, reading: Reading) -> Optional[bytes]:
 
 
 def need_files(has_commands: bool) -> None:
+    """Looks whether the folder has the files of a run alone, and removes others."""
     wanted = sorted([IMAGE, "old", *([COMMANDS] if has_commands else [])])
     found = sorted(os.listdir("."))
     for name in set(found) - set(wanted):
@@ -302,6 +296,7 @@ def remove(name: str) -> None:
 
 
 def outcome(reading: Reading) -> str:
+    """The rule or the law that an image breaks, if it is not sound."""
     words = reading.said.split(" ")
     if reading.status == 7:
         assert reading.image
@@ -310,21 +305,17 @@ def outcome(reading: Reading) -> str:
 
 
 def work(job: Job) -> Found:
+    """What one process does, in a folder of its own."""
     os.nice(10)
-    folder = tempfile.mkdtemp(prefix="sweep-", dir=job.room)
-    os.chdir(folder)
-    os.mkdir("old")
     sweeper = Sweeper(job)
-    try:
-        for work_of, most in ((sweeper.image, job.images), (sweeper.command_file, job.commands),
-                              (sweeper.finding, job.findings), (sweeper.key_script, job.keys),
-                              (sweeper.retirement, job.retirements), (sweeper.word_list, job.words)):
+    with new_folder("sweep-", job.room):
+        os.mkdir("old")
+        for try_one, most in ((sweeper.try_image, job.images), (sweeper.try_command_file, job.commands),
+                              (sweeper.try_finding, job.findings), (sweeper.try_key_script, job.keys),
+                              (sweeper.try_retirement, job.retirements), (sweeper.try_words, job.words)):
             for number in range(job.first, most, job.step):
                 if not (job.stops and sweeper.differ):
-                    work_of(number)
-    finally:
-        os.chdir("/")
-        shutil.rmtree(folder)
+                    try_one(number)
     return Found(sweeper.counts, sweeper.differ, sweeper.slowest)
 
 
@@ -386,7 +377,7 @@ def main() -> int:
     parser.add_argument("--kills", type=int, default=0)
     parser.add_argument("--disk", action="store_true")
     parser.add_argument("--allocations", action="store_true")
-    parser.add_argument("--room", default="/dev/shm" if os.path.isdir("/dev/shm") else None)
+    parser.add_argument("--room", default=MEMORY)
     args = parser.parse_args()
     if args.quick:
         vars(args).update(QUICK)

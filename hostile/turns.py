@@ -10,11 +10,9 @@ import images as drawn_images
 from image import Config, Image, Refused, read_header, read_image
 from in_use import any_in_use, read_in_use, spell_live, torn_live
 from judge import Wrong, check_explain, check_run, need
-from kills import read as read_file
-from kills import write as write_file
 from laws import read
 from live import Session, Talk, give_all
-from program import Program
+from program import Program, read_file, write_file
 
 IMAGE, COMMANDS = "d.img", "c.txt"
 # Calls of which a session makes few, and about how many.
@@ -43,8 +41,8 @@ class Turns:
         self.faults: List[str] = []
         self.number = 0
 
-    def image(self, protocol: Optional[int] = None) -> bytes:
-        """A sound image. The file may be one that a session left of it."""
+    def put_image(self, protocol: Optional[int] = None) -> bytes:
+        """Draws a sound image and answers its file. The one that is written may be as a session leaves it."""
         data = drawn_images.sound_image(self.draw)
         while protocol and config_of(data).protocol != protocol:
             data = drawn_images.sound_image(self.draw)
@@ -58,13 +56,15 @@ class Turns:
         return {it: read_file(it) or b"" for it in os.listdir(".") if it.startswith(IMAGE + ".saving")}
 
     def lines(self, config: Config) -> List[bytes]:
+        """Lines for a session, some of them bad."""
         draw = self.draw.choice((drawn_commands.in_grammar, drawn_commands.in_grammar, drawn_commands.spoiled,
                                  drawn_commands.any_bytes))
         return [it for _ in range(self.draw.choice((1, 1, 4))) for it in
                 draw(self.draw, config).splitlines(keepends=True) if it.endswith(b"\n")]
 
-    def talk(self, setup: Optional[Callable[[], None]] = None, protocol: Optional[int] = None) -> Talk:
-        data = self.image(protocol)
+    def begin_talk(self, setup: Optional[Callable[[], None]] = None, protocol: Optional[int] = None) -> Talk:
+        """Starts a session on an image, and looks at the file that it makes of it."""
+        data = self.put_image(protocol)
         talk = Talk(Session(self.program, [IMAGE], setup), config_of(data), read(data, IMAGE))
         talk.begin()
         need(read_file(IMAGE) == spell_live(talk.image), "the file of the session is not the live image file")
@@ -72,10 +72,11 @@ class Turns:
 
     def break_in(self, call: str, what: str, protocol: Optional[int] = None) -> Tuple[int, Talk]:
         """Serves lines under strace, which does this at some call of the system."""
-        data, number = self.image(protocol), 1 + self.draw.randrange(CALLS.get(call) or self.draw.choice((4, 20, 60)))
+        data = self.put_image(protocol)
+        number = 1 + self.draw.randrange(CALLS.get(call) or self.draw.choice((4, 20, 60)))
         words = ["-o", os.devnull, "-e", f"trace={call}", "-e", f"inject={call}:{what}:when={number}"]
         talk = Talk(Session("strace", [*words, self.program, IMAGE]), config_of(data), read(data, IMAGE))
-        said = talk.session.line()
+        said = talk.session.hear_line()
         if said == "serving":
             give_all(talk, [it for _ in range(4) for it in self.lines(talk.config)])
         else:
@@ -83,19 +84,18 @@ class Turns:
             need(read_in_use(read_file(IMAGE) or b"", IMAGE).image == talk.image, "the image has changed")
         status = talk.session.end()
         if status in (0, 4):
-            need(status == (4 if talk.had_bad else 0), f"status {status}")
-            talk.ends_strictly(read_file(IMAGE) or b"")
+            talk.check_closed(status, read_file(IMAGE) or b"")
         return status, talk
 
-    def left_in_use(self, talk: Talk) -> str:
+    def close_left(self, talk: Talk) -> str:
         """Looks at what a session left that was not closed, and has it closed."""
         left = read_file(IMAGE) or b""
-        talk.ends_in_use(left)
+        talk.check_in_use(left)
         strict, in_use = read(left, IMAGE), read_in_use(left, IMAGE)
         if self.txflash:
             check_explain(strict, self.txflash.run(["explain", IMAGE]), left, read_file(IMAGE))
             if strict.status:
-                commands = self.commands()
+                commands = self.write_commands()
                 ended = self.txflash.run(["run", IMAGE, COMMANDS])
                 check_run(strict, left, commands, COMMANDS, ended, read_file(IMAGE))
         beside = self.beside()
@@ -110,18 +110,19 @@ class Turns:
         what = "at rest" if talk.in_hand is None else "in a command"
         return f"{what}, {'an image file' if strict.status == 0 else 'in use'}{', a file beside it' if beside else ''}"
 
-    def commands(self) -> bytes:
-        """A file of commands for the programs that read image files."""
+    def write_commands(self) -> bytes:
+        """Writes a file of commands for the programs that read image files, and answers its bytes."""
         data = b"write 1 0=01\nfinish 1\n"
         write_file(COMMANDS, data)
         return data
 
-    def turn(self, kind: str) -> None:
+    def take_turn(self, kind: str) -> None:
+        """Does what the method of this name does, in an empty folder."""
         self.number += 1
         for it in os.listdir("."):
             (os.remove if os.path.islink(it) or not os.path.isdir(it) else shutil.rmtree)(it)
         try:
-            self.counts[f"{kind} {getattr(self, kind)()}"] += 1
+            self.counts[f"{kind.replace('_', ' ')}: {getattr(self, kind)()}"] += 1
             need(not self.beside(), "a file beside the image is left")
         except Wrong as why:
             self.faults.append(f"turn {self.number}, {kind}: {why}")
