@@ -22,7 +22,6 @@ a machine that is at other work. What waits for memory does not show then. `--on
 from __future__ import annotations
 
 import argparse
-import os
 import random
 import re
 import shutil
@@ -30,9 +29,9 @@ import subprocess
 import sys
 import tempfile
 from dataclasses import dataclass, field
-from typing import Callable, Dict, List, Optional, Tuple
+from typing import Callable, Dict, List, Optional, Set, Tuple
 
-from runs import run
+from runs import COPY, MEMORY, Bench, expect
 
 PAGES = 4  # slots of a block
 DIES = 4
@@ -40,7 +39,6 @@ PENDING = 256
 SLOTS = (4096, 65536)
 HOWS = ("blank", "half stale", "full")
 PROTOCOLS = ("scc", "bpcc")
-FILE_COMMANDS = 65536  # the most commands of a file
 MANY = 20000  # how often a command is given
 FEW = 2000  # where its instructions are counted
 LEAST = 0.1  # microseconds that are taken for the least
@@ -51,6 +49,8 @@ COUNTS = ["valgrind", "--tool=callgrind", "--callgrind-out-file=/dev/null"]
 
 @dataclass(frozen=True)
 class Device:
+    """A device that commands are measured on, and how many of them."""
+
     protocol: str
     slots: int
     how: str
@@ -60,6 +60,11 @@ class Device:
     @property
     def name(self) -> str:
         return "%s-%d-%s%s.img" % (self.protocol, self.slots, self.how[:4], "-keys" if self.keys else "")
+
+    @property
+    def word(self) -> str:
+        """The word of the program that serves its commands."""
+        return "keys" if self.keys else "run"
 
     @property
     def logical(self) -> int:
@@ -90,6 +95,8 @@ class Work:
 
 @dataclass(frozen=True)
 class Row:
+    """What is measured: the lines for a device, and on which devices."""
+
     name: str
     lines: Callable[[Device], Work]
     hows: Tuple[str, ...] = HOWS
@@ -104,11 +111,12 @@ def draws(device: Device, count: int, most: Optional[int] = None) -> List[int]:
 
 
 def pairs(device: Device, count: int) -> List[Tuple[int, int]]:
+    """So many pairs of different pages."""
     rng = random.Random(count)
     return [(a, (a + rng.randrange(1, device.logical)) % device.logical) for a in draws(device, count)]
 
 
-def repeated(line: str, count: int) -> Work:
+def repetitions(line: str, count: int) -> Work:
     return Work([line] * count, count)
 
 
@@ -120,17 +128,18 @@ def blank_reads(device: Device) -> Work:
     return Work(["read 0"] * device.many, device.many, before=["write 1 0=~", "finish 1"])
 
 
-def both(pages: List[int], last: str) -> List[str]:
+def single_writes(pages: List[int], last: str) -> List[str]:
+    """A write of each page by itself, and its last command."""
     return [line for page in pages for line in ("write 1 %d=01" % page, last)]
 
 
 def aborted_writes(device: Device) -> Work:
-    return Work(both(draws(device, device.many), "abort 1"), device.many)
+    return Work(single_writes(draws(device, device.many), "abort 1"), device.many)
 
 
 def finishes(device: Device) -> Work:
     pages = draws(device, device.many)
-    return Work(both(pages, "finish 1"), device.many, both(pages, "abort 1"))
+    return Work(single_writes(pages, "finish 1"), device.many, single_writes(pages, "abort 1"))
 
 
 def large_finishes(device: Device) -> Work:
@@ -165,7 +174,7 @@ def steps_together(device: Device) -> Work:
 
 
 def collections(device: Device) -> Work:
-    return repeated("collect", device.blocks // 4)
+    return repetitions("collect", device.blocks // 4)
 
 
 def idle_collections(device: Device) -> Work:
@@ -208,7 +217,7 @@ def absent_gets(device: Device) -> Work:
 
 WRITTEN = ("half stale", "full")
 ROWS = (
-    Row("`read`, the same page", lambda device: repeated("read 0", device.many), WRITTEN),
+    Row("`read`, the same page", lambda device: repetitions("read 0", device.many), WRITTEN),
     Row("`read`, one of all pages", reads, WRITTEN),
     Row("`read` of a blank page", blank_reads),
     Row("`write` of a page and its `abort`", aborted_writes),
@@ -216,22 +225,22 @@ ROWS = (
     Row("`finish` of 256 pages, less an `abort`", large_finishes),
     Row("`step`, and what an `abort` then takes more", steps),
     Row("four `stepall` of four pages, less four `abort`", steps_together),
-    Row("`stepall` of none", lambda device: repeated("stepall", device.many)),
+    Row("`stepall` of none", lambda device: repetitions("stepall", device.many)),
     Row("`collect`, `collected`", collections, ("half stale",)),
     Row("`collect`, `nothing`", idle_collections),
-    Row("`stats`", lambda device: repeated("stats", device.many // 4)),
+    Row("`stats`", lambda device: repetitions("stats", device.many // 4)),
     Row("`cut`, `fault` or `badread`", arms),
     Row("a mount", mounts, grows=True),
     Row("a mount, for each record", mounts_by_record, WRITTEN),
-    Row("`explain`", lambda _: repeated("explain", 5), grows=True),
+    Row("`explain`", lambda _: repetitions("explain", 5), grows=True),
     Row("`put` of a key", puts, keys=True),
-    Row("`get`, the same key", lambda device: repeated("get %s" % device.key(1), device.many), WRITTEN, keys=True),
+    Row("`get`, the same key", lambda device: repetitions("get %s" % device.key(1), device.many), WRITTEN, keys=True),
     Row("`get`, one of all keys", gets, WRITTEN, keys=True),
     Row("`get` of an absent key", absent_gets, keys=True),
 )
 
 
-def counted(words: List[str], folder: str, limit: float) -> Optional[float]:
+def count_instructions(words: List[str], folder: str, limit: float) -> Optional[float]:
     """The instructions of a run; none where it took too long."""
     try:
         done = subprocess.run(COUNTS + words, cwd=folder, stdin=subprocess.DEVNULL, capture_output=True, timeout=limit)
@@ -243,75 +252,48 @@ def counted(words: List[str], folder: str, limit: float) -> Optional[float]:
     return float(told[1])
 
 
-class Bench:
-    def __init__(self, exe: str, folder: str, repeat: int, limit: float, counts: bool) -> None:
-        self.exe = os.path.abspath(exe)
-        self.folder = folder
-        self.repeat = 1 if counts else repeat
-        self.limit = limit
+class Costs:
+    """What commands cost, on images that are made once."""
+
+    def __init__(self, bench: Bench, counts: bool) -> None:
+        self.bench = bench
         self.counts = counts
-        self.made: Dict[Device, str] = {}
+        self.made: Set[Device] = set()
         self.bare: Dict[Tuple[Device, Tuple[str, ...]], Optional[float]] = {}
 
-    def path(self, name: str) -> str:
-        return os.path.join(self.folder, name)
-
-    def commands(self, lines: List[str]) -> List[str]:
-        """The files of these commands."""
-        names = []
-        for start in range(0, max(len(lines), 1), FILE_COMMANDS):
-            names.append("commands-%d.txt" % (start // FILE_COMMANDS))
-            with open(self.path(names[-1]), "w", encoding="ascii") as out:
-                out.write("".join(line + "\n" for line in lines[start : start + FILE_COMMANDS]))
-        return names
-
-    def call(self, *words: str) -> Optional[float]:
-        """The processor time of a run, in microseconds; none where it took too long."""
-        one = run([self.exe, *words], self.folder, self.limit)
-        if one.status is not None and one.status != 0:
-            sys.exit("%s: status %d: %s" % (" ".join(words), one.status, one.said[:200].decode("ascii", "replace")))
-        return None if one.status is None else 1e6 * one.processor
-
-    def image(self, device: Device) -> str:
-        """The image of a device, which is made once."""
+    def make_image(self, device: Device) -> None:
+        """Makes the image of a device, if it is not made yet."""
         if device not in self.made:
             words = [device.protocol, 128 if device.keys else 16, PAGES, device.slots // PAGES // DIES, DIES]
-            self.call("format", device.name, *map(str, [*words, device.logical, PENDING]))
-            for name in self.commands(filling(device)):
-                self.call("keys" if device.keys else "run", device.name, name)
-            self.made[device] = device.name
-        return self.made[device]
+            expect(self.bench.call("format", device.name, *map(str, [*words, device.logical, PENDING])))
+            self.bench.serve(device.word, device.name, lines_to_make(device))
+            self.made.add(device)
 
     def least(self, device: Device, lines: List[str]) -> Optional[float]:
         """The least cost of some runs with these commands, on copies of an image; none where one took too long."""
-        image = self.image(device)
-        names = self.commands(lines)
-        if len(names) != 1:
-            sys.exit("too many commands for a file")
-        times = []
-        for _ in range(self.repeat):
-            shutil.copyfile(self.path(image), self.path("copy.img"))
-            words = ["keys" if device.keys else "run", "copy.img", names[0]]
-            times.append(counted([self.exe, *words], self.folder, self.limit) if self.counts else self.call(*words))
-            if times[-1] is None:
-                return None
-        return min(time for time in times if time is not None)
+        self.make_image(device)
+        bench, words = self.bench, [device.word, COPY, self.bench.write_commands(lines)]
+        if self.counts:
+            shutil.copyfile(bench.path(device.name), bench.path(COPY))
+            return count_instructions([bench.exe, *words], bench.folder, bench.limit)
+        one = bench.least(*words, image=device.name)
+        return None if one is None else 1e6 * one.processor
 
-    def without(self, device: Device, lines: List[str]) -> Optional[float]:
+    def cost_without(self, device: Device, lines: List[str]) -> Optional[float]:
         """The same, which is measured once: other rows may have it too."""
         key = (device, tuple(lines))
         if key not in self.bare:
             self.bare[key] = self.least(device, lines)
         return self.bare[key]
 
-    def cost(self, device: Device, work: Work) -> Optional[float]:
-        """Of one command, in microseconds or instructions; none where a run took too long."""
-        less = self.without(device, work.before + work.less)
+    def of_one(self, device: Device, work: Work) -> Optional[float]:
+        """The cost of one command, in microseconds or instructions; none where a run took too long."""
+        less = self.cost_without(device, work.before + work.less)
         many = self.least(device, work.before + work.many)
         return None if less is None or many is None else (many - less) / work.count
 
 
-def filling(device: Device) -> List[str]:
+def lines_to_make(device: Device) -> List[str]:
     """What makes a device half stale or full."""
     if device.how == "blank":
         return []
@@ -320,21 +302,23 @@ def filling(device: Device) -> List[str]:
         numbers += random.Random(2).sample(numbers, device.logical // 2)
     if device.keys:
         return ["put %s=01" % device.key(number) for number in numbers]
-    return both(numbers, "finish 1")
+    return single_writes(numbers, "finish 1")
 
 
 def growth(costs: List[Optional[float]], least: float) -> Optional[float]:
+    """How often the first cost goes into the second, where what is below the least is taken for that."""
     small, large = costs
     return None if small is None or large is None else max(large, least) / max(small, least)
 
 
-def cells(costs: List[Optional[float]], factor: Optional[float], bench: Bench) -> List[str]:
-    form = "%.0f" if bench.counts else "%.2f"
-    told = ["over %d s" % bench.limit if cost is None else form % cost for cost in costs]
+def cells(found: List[Optional[float]], factor: Optional[float], costs: Costs) -> List[str]:
+    """Both costs in words, and how often the first goes into the second."""
+    form = "%.0f" if costs.counts else "%.2f"
+    told = ["over %d s" % costs.bench.limit if cost is None else form % cost for cost in found]
     return told + ["" if factor is None else "%.1f" % factor]
 
 
-def table(bench: Bench, protocols: Tuple[str, ...], only: str) -> None:
+def print_table(costs: Costs, protocols: Tuple[str, ...], only: str) -> None:
     heads = [head for one in protocols for head in ["%s, %d" % (one, slots) for slots in SLOTS] + ["times"]]
     print("| Command | Device | %s |" % " | ".join(heads))
     print("|%s" % ("---|" * (len(heads) + 2)))
@@ -345,13 +329,13 @@ def table(bench: Bench, protocols: Tuple[str, ...], only: str) -> None:
                 continue
             line = [row.name, how]
             for protocol in protocols:
-                many = FEW if bench.counts else MANY
+                many = FEW if costs.counts else MANY
                 devices = [Device(protocol, slots, how, row.keys, many) for slots in SLOTS]
-                costs = [bench.cost(device, row.lines(device)) for device in devices]
-                factor = growth(costs, LEAST_COUNT if bench.counts else LEAST)
+                found = [costs.of_one(device, row.lines(device)) for device in devices]
+                factor = growth(found, LEAST_COUNT if costs.counts else LEAST)
                 if factor is None or factor > TWICE:
                     (wanted if row.grows else grown).append("%s (%s, %s)" % (row.name, how, protocol))
-                line += cells(costs, factor, bench)
+                line += cells(found, factor, costs)
             print("| %s |" % " | ".join(line), flush=True)
     print()
     said = "; ".join(grown) or "none", "; ".join(wanted) or "none"
@@ -364,13 +348,13 @@ def main() -> None:
     words.add_argument("--protocol", choices=PROTOCOLS)
     words.add_argument("--repeat", type=int, default=5)
     words.add_argument("--limit", type=float, default=120.0)
-    words.add_argument("--folder", default="/dev/shm" if os.path.isdir("/dev/shm") else None)
+    words.add_argument("--folder", default=MEMORY)
     words.add_argument("--only", default="", help="the rows whose name has this")
     words.add_argument("--instructions", action="store_true", help="count instructions, by valgrind")
     said = words.parse_args()
     with tempfile.TemporaryDirectory(dir=said.folder) as folder:
-        bench = Bench(said.exe, folder, said.repeat, said.limit, said.instructions)
-        table(bench, (said.protocol,) if said.protocol else PROTOCOLS, said.only)
+        costs = Costs(Bench(said.exe, folder, said.repeat, said.limit), said.instructions)
+        print_table(costs, (said.protocol,) if said.protocol else PROTOCOLS, said.only)
 
 
 if __name__ == "__main__":

@@ -6,19 +6,11 @@
 from __future__ import annotations
 
 import argparse
-import os
-import sys
 
-from runs import run
+from runs import Bench, expect
 
 COUNTS = (2500, 5000, 10000, 20000, 100000)
-
-
-def least(exe: str, count: int, protocol: str, repeat: int) -> float:
-    runs = [run([exe, "drive", "1", str(count), protocol], ".", 600.0) for _ in range(repeat)]
-    if any(one.status != 0 for one in runs):
-        sys.exit("drive ended with a status that is not 0")
-    return min(one.processor for one in runs)
+LIMIT = 600.0
 
 
 def main() -> None:
@@ -28,9 +20,10 @@ def main() -> None:
     said = words.parse_args()
     print("| COUNT | %s |" % " | ".join(map(str, COUNTS)))
     print("|---%s|" % ("|---" * len(COUNTS)))
+    bench = Bench(said.exe, ".", said.repeat, LIMIT)
     for protocol in ("scc", "bpcc"):
-        times = [least(os.path.abspath(said.exe), count, protocol, said.repeat) for count in COUNTS]
-        print("| `%s` | %s |" % (protocol, " | ".join("%.3f" % time for time in times)), flush=True)
+        runs = [expect(bench.least("drive", "1", str(count), protocol)) for count in COUNTS]
+        print("| `%s` | %s |" % (protocol, " | ".join("%.3f" % one.processor for one in runs)), flush=True)
 
 
 if __name__ == "__main__":

@@ -9,12 +9,14 @@ program's own output goes to standard output.
 The system counts among the memory of a program that of the process which started it. So it is started here, by a
 Python without its site, and what is told is at least the 10 MiB or so of that one.
 """
+from __future__ import annotations
+
 import os
 import sys
 import time
 
 
-def waited(child, end):
+def wait(child: int, end: float) -> tuple[int | None, resource.struct_rusage]:
     """The status of a child, or None where it had to be stopped, and what it used."""
     while True:
         pid, status, usage = os.wait4(child, os.WNOHANG)
@@ -26,11 +28,11 @@ def waited(child, end):
         time.sleep(0.0005)
 
 
-def main():
+def main() -> None:
     limit, exe, *words = sys.argv[1:]
     start = time.perf_counter()
     child = os.posix_spawn(exe, [exe, *words], os.environ)
-    status, usage = waited(child, start + float(limit))
+    status, usage = wait(child, start + float(limit))
     seconds = time.perf_counter() - start
     processor = usage.ru_utime + usage.ru_stime
     told = "none" if status is None else status

@@ -23,13 +23,16 @@ from __future__ import annotations
 
 import argparse
 import os
-import struct
 import subprocess
+import sys
 import tempfile
 import time
 from typing import Callable, Dict, List, NamedTuple, Tuple
 
-SPARE = 64
+sys.path.insert(0, os.path.join(os.path.dirname(os.path.abspath(__file__)), "..", "clients", "python"))
+
+from images import SPARE, blank  # noqa: E402
+
 Numbers = Tuple[int, int, int, int, int, int]
 # Bytes of a page, slots of a block, blocks of a die, dies, logical pages, and pages that may be pending.
 SMALL: Numbers = (16, 4, 4, 2, 20, 7)
@@ -38,15 +41,7 @@ WIDE: Numbers = (4096, 64, 8, 2, 256, 64)
 # How many pages a line of whole pages writes.
 PAGES = 16
 LARGE: Numbers = (2048, 64, 248, 4, 60000, 256)
-PROTOCOLS = {"scc": 1, "bpcc": 2}
-
-
-def blank(protocol: str, numbers: Numbers) -> bytes:
-    """The image file of a blank device."""
-    page, pages, blocks, dies = numbers[:4]
-    slots = pages * blocks * dies
-    header = struct.pack("<8s7I28s", b"TXFLASH1", PROTOCOLS[protocol], *numbers, bytes(28))
-    return header + bytes(slots) + b"\xff" * (slots * (page + SPARE))
+PROTOCOLS = ("scc", "bpcc")
 
 
 class Taken(NamedTuple):
@@ -55,7 +50,7 @@ class Taken(NamedTuple):
     own: float
 
 
-class Served:
+class Session:
     """A program that takes lines from a pipe and answers each."""
 
     def __init__(self, words: List[str]) -> None:
@@ -64,6 +59,7 @@ class Served:
         self.input, self.output = self.process.stdin.fileno(), self.process.stdout.fileno()
 
     def hear(self) -> bytes:
+        """Waits for what is said next, up to the end of a line."""
         said = b""
         while not said.endswith(b"\n"):
             part = os.read(self.output, 1 << 16)
@@ -72,49 +68,58 @@ class Served:
             said += part
         return said
 
-    def own(self) -> int:
+    def own_nanoseconds(self) -> int:
         """How many nanoseconds of a processor the program has had."""
         with open(f"/proc/{self.process.pid}/schedstat", encoding="ascii") as file:
             return int(file.read().split()[0])
 
     def ask(self, line: bytes) -> Taken:
-        before, begun = self.own(), time.perf_counter_ns()
+        """Gives a line and waits for its reply."""
+        before, begun = self.own_nanoseconds(), time.perf_counter_ns()
         os.write(self.input, line)
         self.hear()
         ended = time.perf_counter_ns()
-        return Taken((ended - begun) / 1000, (self.own() - before) / 1000)
+        return Taken((ended - begun) / 1000, (self.own_nanoseconds() - before) / 1000)
 
     def end(self) -> None:
         self.process.communicate()
 
 
-def at(times: List[float], part: float) -> float:
+def quantile(times: List[float], part: float) -> float:
+    """The time that this part of them stays below."""
     return sorted(times)[min(int(part * len(times)), len(times) - 1)]
 
 
 def print_row(name: str, where: str, taken: List[Taken]) -> None:
     clock, own = [it.clock for it in taken], [it.own for it in taken]
-    print("| %s | %s | %.1f | %.1f | %.1f |" % (name, where, at(clock, 0.5), at(clock, 0.99), at(own, 0.5)), flush=True)
+    times = quantile(clock, 0.5), quantile(clock, 0.99), quantile(own, 0.5)
+    print("| %s | %s | %.1f | %.1f | %.1f |" % (name, where, *times), flush=True)
 
 
-def replies(exe: str, where: str, folder: str, name: str, image: bytes, rounds: int) -> None:
-    """The times of each command on a device."""
+def open_both(exe: str, folder: str, image: bytes) -> Tuple[Session, int]:
+    """A session on this image, which is open, and an open file of the same bytes beside it."""
     path, beside = os.path.join(folder, "device.img"), os.path.join(folder, "beside.img")
     for it in (path, beside):
         with open(it, "wb") as file:
             file.write(image)
-    served, bare = Served([exe, path]), os.open(beside, os.O_RDWR)
+    session = Session([exe, path])
+    session.hear()
+    return session, os.open(beside, os.O_RDWR)
+
+
+def time_replies(exe: str, where: str, folder: str, name: str, image: bytes, rounds: int) -> None:
+    """Prints a row for each command on a device."""
+    session, bare = open_both(exe, folder, image)
     times: Dict[str, List[Taken]] = {}
-    served.hear()
     for number in range(rounds):
         page = number % 16
         write = "write 1 %d=%04x" % (page, number % 65536)
         for line in (write, "finish 1", "read %d" % page, "write 2 0=01", "abort 2"):
-            times.setdefault("`%s`" % line.split(" ")[0], []).append(served.ask(line.encode() + b"\n"))
+            times.setdefault("`%s`" % line.split(" ")[0], []).append(session.ask(line.encode() + b"\n"))
         times.setdefault("the calls alone", []).append(bare_calls(bare, number, len(image)))
     for what, found in times.items():
         print_row("%s, %s" % (what, name), where, found)
-    served.end()
+    session.end()
     os.close(bare)
 
 
@@ -131,42 +136,38 @@ def bare_calls(file: int, number: int, size: int, page: int = 16, pages: int = 1
     return Taken((time.perf_counter_ns() - begun) / 1000, (time.thread_time_ns() - before) / 1000)
 
 
-def whole_pages(exe: str, where: str, folder: str, rounds: int) -> None:
-    """The times of a write of 16 whole pages of 4096 bytes, and of its finish."""
-    path, beside = os.path.join(folder, "device.img"), os.path.join(folder, "beside.img")
-    image = blank("scc", WIDE)
-    for it in (path, beside):
-        with open(it, "wb") as file:
-            file.write(image)
-    served, bare = Served([exe, path]), os.open(beside, os.O_RDWR)
+def time_whole_pages(exe: str, where: str, folder: str, rounds: int) -> None:
+    """Prints rows of a write of 16 whole pages of 4096 bytes, and of its finish."""
+    image = blank("scc", *WIDE)
+    session, bare = open_both(exe, folder, image)
     times: Dict[str, List[Taken]] = {"`write`": [], "`finish`": [], "the calls alone": []}
-    served.hear()
     for number in range(rounds):
         pages = ["%d=%s" % (page, ("%02x%02x" % (page, number % 256)) * (WIDE[0] // 2)) for page in range(PAGES)]
-        times["`write`"].append(served.ask(("write 1 %s\n" % " ".join(pages)).encode()))
-        times["`finish`"].append(served.ask(b"finish 1\n"))
+        times["`write`"].append(session.ask(("write 1 %s\n" % " ".join(pages)).encode()))
+        times["`finish`"].append(session.ask(b"finish 1\n"))
         times["the calls alone"].append(bare_calls(bare, number, len(image), WIDE[0], PAGES, WIDE[3]))
     for what, found in times.items():
         print_row("%s, %d pages of %d bytes" % (what, PAGES, WIDE[0]), where, found)
-    served.end()
+    session.end()
     os.close(bare)
 
 
-def echoes(where: str, rounds: int) -> None:
-    served = Served(["cat"])
-    print_row("`cat`", where, [served.ask(b"read 0\n") for _ in range(rounds)])
-    served.end()
+def time_echoes(rounds: int) -> None:
+    """Prints the row of a program that only repeats lines."""
+    session = Session(["cat"])
+    print_row("`cat`", "", [session.ask(b"read 0\n") for _ in range(rounds)])
+    session.end()
 
 
 def fill(exe: str, path: str, logical: int) -> None:
     """Writes each page of a device."""
-    served = Served([exe, path])
-    served.hear()
+    session = Session([exe, path])
+    session.hear()
     for first in range(0, logical, 256):
         pages = range(first, min(first + 256, logical))
-        served.ask(("write 1 " + " ".join("%d=%08x" % (page, page) for page in pages) + "\n").encode())
-        served.ask(b"finish 1\n")
-    served.end()
+        session.ask(("write 1 " + " ".join("%d=%08x" % (page, page) for page in pages) + "\n").encode())
+        session.ask(b"finish 1\n")
+    session.end()
 
 
 def least(work: Callable[[], float], count: int) -> float:
@@ -174,20 +175,22 @@ def least(work: Callable[[], float], count: int) -> float:
 
 
 def least_of_both(exe: str, path: str, count: int) -> List[float]:
-    return [min(it) for it in zip(*(session(exe, path) for _ in range(count)))]
+    """The least opening and the least closing of some."""
+    return [min(it) for it in zip(*(time_session(exe, path) for _ in range(count)))]
 
 
-def session(exe: str, path: str) -> Tuple[float, float]:
+def time_session(exe: str, path: str) -> Tuple[float, float]:
     """What an opening and a closing take."""
     begun = time.perf_counter()
-    served = Served([exe, path])
-    served.hear()
+    session = Session([exe, path])
+    session.hear()
     opened = time.perf_counter()
-    served.end()
+    session.end()
     return opened - begun, time.perf_counter() - opened
 
 
-def reading(path: str) -> float:
+def time_reading(path: str) -> float:
+    """What it takes to read a file."""
     begun = time.perf_counter()
     with open(path, "rb", buffering=0) as file:
         room = bytearray(os.path.getsize(path))
@@ -195,7 +198,8 @@ def reading(path: str) -> float:
     return time.perf_counter() - begun
 
 
-def saving(path: str) -> float:
+def time_saving(path: str) -> float:
+    """What it takes to save a file."""
     with open(path, "rb") as file:
         data = file.read()
     begun = time.perf_counter()
@@ -210,16 +214,17 @@ def saving(path: str) -> float:
     return time.perf_counter() - begun
 
 
-def openings(exe: str, where: str, folder: str, count: int) -> None:
+def time_openings(exe: str, where: str, folder: str, count: int) -> None:
+    """Prints a row for each image."""
     for protocol in PROTOCOLS:
         for how in ("blank", "full"):
             path = os.path.join(folder, "large.img")
             with open(path, "wb") as file:
-                file.write(blank(protocol, LARGE))
+                file.write(blank(protocol, *LARGE))
             if how == "full":
                 fill(exe, path, LARGE[4])
             opened, closed = least_of_both(exe, path, count)
-            read, saved = least(lambda: reading(path), count), least(lambda: saving(path), count)
+            read, saved = least(lambda: time_reading(path), count), least(lambda: time_saving(path), count)
             told = protocol, how, where, opened, closed, read, saved
             print("| %s, %s | %s | %.3f | %.3f | %.3f | %.3f |" % told, flush=True)
             os.remove(path)
@@ -237,15 +242,15 @@ def main() -> None:
     rooms = [(it, tempfile.mkdtemp(prefix="live-", dir=it)) for it in folders]
     try:
         print("| Line | Folder | median | 99 of 100 | of its own |\n|---|---|---|---|---|")
-        echoes("", said.rounds)
+        time_echoes(said.rounds)
         for where, room in rooms:
             for name, numbers in (("32 slots", SMALL), ("65536 slots", MANY)):
-                replies(exe, where, room, name, blank("scc", numbers), said.rounds)
-            whole_pages(exe, where, room, said.rounds)
+                time_replies(exe, where, room, name, blank("scc", *numbers), said.rounds)
+            time_whole_pages(exe, where, room, said.rounds)
         print("\n| Image | Folder | to `serving` | to close it | to read it | to save it |")
         print("|---|---|---|---|---|---|")
         for where, room in rooms:
-            openings(exe, where, room, said.openings)
+            time_openings(exe, where, room, said.openings)
     finally:
         for _, room in rooms:
             for name in os.listdir(room):

@@ -13,20 +13,16 @@ the limit is told as `over` it.
 from __future__ import annotations
 
 import argparse
-import os
 import random
-import shutil
-import sys
 import tempfile
 from typing import Callable, Dict, List, Optional
 
-from runs import Run, run
+from runs import COPY, MEMORY, Bench, Run, expect, filling
 
 PAGES = 4  # slots of a block
 DIES = 4
 PENDING = 16
 SLOTS = (4096, 65536)
-FILE_COMMANDS = 65536  # the most commands of a file
 REWRITES = 20000
 
 
@@ -97,65 +93,18 @@ WORK: Dict[str, Callable[[int], List[str]]] = {
 }
 
 
-class Bench:
-    def __init__(self, exe: str, folder: str, protocol: str, repeat: int, limit: float) -> None:
-        self.exe = os.path.abspath(exe)
-        self.folder = folder
-        self.protocol = protocol
-        self.repeat = repeat
-        self.limit = limit
-
-    def path(self, name: str) -> str:
-        return os.path.join(self.folder, name)
-
-    def call(self, *words: str) -> Run:
-        return run([self.exe, *words], self.folder, self.limit)
-
-    def commands(self, lines: List[str]) -> str:
-        with open(self.path("commands.txt"), "w", encoding="ascii") as out:
-            out.write("".join(line + "\n" for line in lines))
-        return "commands.txt"
-
-    def image(self, slots: int) -> str:
-        """A device of so many slots, all of whose pages were written."""
-        name = "%d.img" % slots
-        words = [self.protocol, 16, PAGES, slots // PAGES // DIES, DIES, logical(slots), PENDING]
-        expect(self.call("format", name, *map(str, words)))
-        lines = []
-        for page in range(logical(slots)):
-            lines += ["write 1 %d=%02x" % (page, page & 255), "finish 1"]
-        for start in range(0, len(lines), FILE_COMMANDS):
-            expect(self.call("run", name, self.commands(lines[start : start + FILE_COMMANDS])))
-        return name
-
-    def served(self, image: str, lines: List[str]) -> Optional[Run]:
-        """The best of some runs on copies of an image; none where one took too long."""
-        commands = self.commands(lines)
-        runs = []
-        for _ in range(self.repeat):
-            shutil.copyfile(self.path(image), self.path("copy.img"))
-            one = self.call("run", "copy.img", commands)
-            if one.status is None:
-                return None
-            expect(one)
-            runs.append(one)
-        return min(runs, key=lambda one: one.processor)
-
-    def explained(self, image: str) -> Optional[Run]:
-        runs = [self.call("explain", image) for _ in range(self.repeat)]
-        if any(one.status is None for one in runs):
-            return None
-        for one in runs:
-            expect(one)
-        return min(runs, key=lambda one: one.processor)
+def make_image(bench: Bench, protocol: str, slots: int) -> str:
+    """Makes a device of so many slots, all of whose pages are written, and answers the name of its image."""
+    name = "%d.img" % slots
+    words = [protocol, 16, PAGES, slots // PAGES // DIES, DIES, logical(slots), PENDING]
+    expect(bench.call("format", name, *map(str, words)))
+    bench.serve("run", name, filling(logical(slots)))
+    return name
 
 
-def expect(one: Run) -> None:
-    """Ends the table where the program did not do its work."""
-    if one.status is None:
-        sys.exit("the images took too long to make")
-    if one.status != 0:
-        sys.exit("status %d: %s" % (one.status, one.said[:200].decode("ascii", "replace")))
+def least(bench: Bench, image: str, lines: List[str]) -> Optional[Run]:
+    """The least of some runs of these commands on copies of an image; none where one took too long."""
+    return bench.least("run", COPY, bench.write_commands(lines), image=image)
 
 
 def row(name: str, runs: List[Optional[Run]], opened: List[Optional[Run]], limit: float) -> str:
@@ -172,16 +121,16 @@ def row(name: str, runs: List[Optional[Run]], opened: List[Optional[Run]], limit
     return "| %s |" % " | ".join([name, *told, *factors, peak])
 
 
-def table(bench: Bench) -> None:
-    images = [bench.image(slots) for slots in SLOTS]
-    opened = [bench.served(image, []) for image in images]
-    print("| Work, %s | %d slots | %d slots | times | times, but for opening | peak, MiB |" % (bench.protocol, *SLOTS))
+def print_table(bench: Bench, protocol: str) -> None:
+    images = [make_image(bench, protocol, slots) for slots in SLOTS]
+    opened = [least(bench, image, []) for image in images]
+    print("| Work, %s | %d slots | %d slots | times | times, but for opening | peak, MiB |" % (protocol, *SLOTS))
     print("|---|---|---|---|---|---|")
     print(row("no command: opening and saving", opened, [None, None], bench.limit), flush=True)
     for name, lines in WORK.items():
-        runs = [bench.served(image, lines(logical(slots))) for image, slots in zip(images, SLOTS)]
+        runs = [least(bench, image, lines(logical(slots))) for image, slots in zip(images, SLOTS)]
         print(row(name, runs, opened, bench.limit), flush=True)
-    print(row("`explain`", [bench.explained(image) for image in images], [None, None], bench.limit))
+    print(row("`explain`", [bench.least("explain", image) for image in images], [None, None], bench.limit))
 
 
 def main() -> None:
@@ -190,10 +139,10 @@ def main() -> None:
     words.add_argument("--protocol", choices=("scc", "bpcc"), default="scc")
     words.add_argument("--repeat", type=int, default=3)
     words.add_argument("--limit", type=float, default=120.0)
-    words.add_argument("--folder", default="/dev/shm" if os.path.isdir("/dev/shm") else None)
+    words.add_argument("--folder", default=MEMORY)
     said = words.parse_args()
     with tempfile.TemporaryDirectory(dir=said.folder) as folder:
-        table(Bench(said.exe, folder, said.protocol, said.repeat, said.limit))
+        print_table(Bench(said.exe, folder, said.repeat, said.limit), said.protocol)
 
 
 if __name__ == "__main__":

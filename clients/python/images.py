@@ -15,13 +15,17 @@ HEADER, SPARE = struct.Struct("<8s7I"), 64
 NUMBERS = {"scc": 1, "bpcc": 2}
 
 
-def write_blank(path: str, protocol: str, page_bytes: int, pages: int, blocks: int, dies: int, logical: int,
-                pending: int) -> None:
-    """A new file, durable when this returns."""
+def blank(protocol: str, page_bytes: int, pages: int, blocks: int, dies: int, logical: int, pending: int) -> bytes:
+    """The image of a blank device."""
     head = HEADER.pack(b"TXFLASH1", NUMBERS[protocol], page_bytes, pages, blocks, dies, logical, pending)
     slots = pages * blocks * dies
+    return head.ljust(64, b"\0") + bytes(slots) + b"\xff" * (slots * (page_bytes + SPARE))
+
+
+def write_blank(path: str, protocol: str, *numbers: int) -> None:
+    """A new file with the image of a blank device, durable when this returns. The numbers are those of `blank`."""
     with open(path, "xb") as file:
-        file.write(head.ljust(64, b"\0") + bytes(slots) + b"\xff" * (slots * (page_bytes + SPARE)))
+        file.write(blank(protocol, *numbers))
         file.flush()
         os.fsync(file.fileno())
 
