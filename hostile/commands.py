@@ -124,14 +124,14 @@ def script(draw: Draw, config: Config) -> List[str]:
     return it.lines
 
 
-def in_grammar(draw: Draw, config: Config) -> bytes:
+def script_in_grammar(draw: Draw, config: Config) -> bytes:
     """Commands as the grammar allows them: zeros lead, blanks and comments stand between, lines end in several ways."""
     lines = script(draw, config)
     if draw.random() < 0.5:
         return "".join(f"{it}\n" for it in lines).encode()
     out = []
     for line in lines:
-        words = [it if draw.random() < 0.9 else loosened(draw, it) for it in line.split(" ")]
+        words = [it if draw.random() < 0.9 else loosened_word(draw, it) for it in line.split(" ")]
         line = draw.choice((" ", " ", "\t", "  \t")).join(words)
         line = draw.choice(("", "", " ", "\t")) + line + draw.choice(("", "", " ", "\t "))
         out.append(line + draw.choice(("\n", "\n", "\r\n")))
@@ -141,7 +141,7 @@ def in_grammar(draw: Draw, config: Config) -> bytes:
     return (text[:-1] if draw.random() < 0.3 else text).encode()
 
 
-def loosened(draw: Draw, word: str) -> str:
+def loosened_word(draw: Draw, word: str) -> str:
     """The same number or contents, written otherwise."""
     if word.isdigit():
         return word.zfill(draw.randint(len(word), 10))
@@ -180,7 +180,7 @@ SPOILS = (
 )
 
 
-def spoiled(draw: Draw, config: Config) -> bytes:
+def spoiled_script(draw: Draw, config: Config) -> bytes:
     lines = script(draw, config) or ["stats"]
     for _ in range(draw.choice((1, 1, 1, 2))):
         place = draw.randrange(len(lines))
@@ -199,14 +199,14 @@ def any_bytes(draw: Draw, config: Config) -> bytes:
         return bytes(draw.randrange(256) for _ in range(size))
     if how < 0.7:
         return bytes(draw.choice(b"readwritstpfnhbocku 0123456789=-#\n\n\r\t") for _ in range(size))
-    data = bytearray(in_grammar(draw, config))
+    data = bytearray(script_in_grammar(draw, config))
     for _ in range(draw.choice((1, 1, 2, 4))):
         if data:
             data[draw.randrange(len(data))] = draw.choice((0, 9, 10, 13, 32, 35, 45, 61, draw.randrange(256)))
     return bytes(data)
 
 
-def at_limits(draw: Draw, config: Config) -> bytes:
+def script_at_limits(draw: Draw, config: Config) -> bytes:
     """As many commands or entries as a file may have, one fewer, or one more."""
     more = draw.choice((-1, 0, 0, 1, 1, 40))
     if draw.random() < 0.5:
@@ -219,10 +219,10 @@ def at_limits(draw: Draw, config: Config) -> bytes:
 
 
 KINDS = (
-    (0.50, "in the grammar", in_grammar),
-    (0.33, "spoiled", spoiled),
+    (0.50, "in the grammar", script_in_grammar),
+    (0.33, "spoiled", spoiled_script),
     (0.1695, "bytes", any_bytes),
-    (0.0005, "at the limits", at_limits),
+    (0.0005, "at the limits", script_at_limits),
 )
 
 
@@ -234,4 +234,4 @@ def draw_commands(draw: Draw, config: Config, number: int) -> Drawn:
 
 def draw_script(draw: Draw, config: Config) -> bytes:
     """A file in the grammar."""
-    return in_grammar(draw, config)
+    return script_in_grammar(draw, config)

@@ -29,7 +29,7 @@ def first_wrong_line(wanted: bytes, given: bytes) -> int:
     return next((number for number, (one, other) in enumerate(pairs, 1) if one != other), 0)
 
 
-def unread(data: Optional[bytes], name: str) -> Optional[Finding]:
+def load_refusal(data: Optional[bytes], name: str) -> Optional[Finding]:
     """Why a file is not loaded."""
     if data is None:
         return Finding(2, f"no file {name}\n")
@@ -40,7 +40,7 @@ def wanted_check(reading: Reading, text: Optional[bytes], name: str) -> Finding:
     """What `check` says of an image and a report, both of which are loaded before either is read."""
     if reading.status == 9:
         return Finding(9, reading.said)
-    refused = unread(text, name)
+    refused = load_refusal(text, name)
     if refused or reading.status:
         return refused or Finding(reading.status, reading.said)
     assert text is not None

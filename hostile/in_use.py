@@ -12,7 +12,7 @@ NUMBER = 4
 DAMAGE = 0x80
 
 
-def filled(data: bytes) -> bytes:
+def filled_image(data: bytes) -> bytes:
     """An image file in use, with the own bytes of blank and of damaged slots as an image file has them."""
     header = read_header(data)
     if isinstance(header, Refused):
@@ -78,12 +78,12 @@ def read_in_use(data: bytes, name: str) -> Reading:
     image = as_image(data) if data.startswith(LIVE) else data
     if isinstance(image, Refused):
         return Reading(3, f"bad image: {image.words}\n", None, None)
-    return read(filled(image), name)
+    return read(filled_image(image), name)
 
 
 # What is drawn.
 
-def torn(draw: Draw, over: bytes, slot: bytes) -> bytes:
+def torn_slot(draw: Draw, over: bytes, slot: bytes) -> bytes:
     """What a loss may leave of a slot that is written over another one."""
     chance = draw.choice((0.1, 0.5, 0.9))
     if draw.random() < 0.5:
@@ -99,7 +99,7 @@ def torn_live(draw: Draw, image: Image) -> bytes:
     for it in image.slots:
         cell = live_slot(image.config, it)
         if it.state == BLANK and some and draw.random() < 0.3:
-            left = torn(draw, live_slot(image.config, erased), live_slot(image.config, draw.choice(some)))
+            left = torn_slot(draw, live_slot(image.config, erased), live_slot(image.config, draw.choice(some)))
             cell = left if state_of(left) == BLANK else cell
         cells.append(cell)
     return spell_live(image)[:HEADER.size] + b"".join(cells)

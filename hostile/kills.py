@@ -62,7 +62,7 @@ class Kills:
         """Whether the links are as they were."""
         return os.path.islink(LINK) and os.readlink(LINK) == "../" + SINGLE and os.path.samefile(IMAGE, SECOND)
 
-    def beside(self) -> Set[str]:
+    def new_files(self) -> Set[str]:
         """The files beside the images and links."""
         found = {f"{folder}/{name}" for folder in ("images", "links", "names") for name in os.listdir(folder)}
         return found - {IMAGE, SINGLE, LINK, SECOND}
@@ -80,7 +80,7 @@ class Kills:
         """Whether the first byte of what is saved is there."""
         if way.in_place:
             return lambda: first_bytes(way.file) != MAGIC
-        return lambda: any(size(it) > 0 for it in self.beside() - earlier)
+        return lambda: any(size(it) > 0 for it in self.new_files() - earlier)
 
     def start(self, way: Way) -> int:
         nowhere = os.open(os.devnull, os.O_WRONLY)
@@ -91,7 +91,7 @@ class Kills:
     def time(self, way: Way) -> float:
         """How long a run goes on after the first byte of what it saves."""
         write_file(COMMANDS, b"write 1 0=01\nfinish 1\n")
-        begun, process = self.has_begun(way, self.beside()), self.start(way)
+        begun, process = self.has_begun(way, self.new_files()), self.start(way)
         first = None
         while os.waitpid(process, os.WNOHANG) == (0, 0):
             first = first or (time.monotonic() if begun() else None)
@@ -99,7 +99,7 @@ class Kills:
 
     def kill(self, way: Way) -> bool:
         """Starts a run and kills it at a random moment of its save; whether it came to that."""
-        begun, process = self.has_begun(way, self.beside()), self.start(way)
+        begun, process = self.has_begun(way, self.new_files()), self.start(way)
         ended = 0
         while not ended and not begun():
             ended, status = os.waitpid(process, os.WNOHANG)
@@ -126,7 +126,7 @@ class Kills:
         if wrong:
             write_file(way.file, old)
         if killed and number % 10 == 0:
-            for it in self.beside():
+            for it in self.new_files():
                 os.remove(it)
         return killed
 

@@ -209,7 +209,7 @@ class Losses:
         self.lost: Optional[bytes] = None
         self.killed: Optional[Begun] = None
 
-    def begun(self, protocol: int) -> Begun:
+    def draw_begun(self, protocol: int) -> Begun:
         """A sound image under a protocol, what a loss has left, or what a session has that was killed."""
         how = self.draw.random()
         if self.killed and how < 0.4:
@@ -224,13 +224,13 @@ class Losses:
 
     def lines(self, talk: Talk) -> Iterator[bytes]:
         for _ in range(self.draw.choice((3, 5, 8))):
-            for it in drawn_commands.in_grammar(self.draw, talk.config).splitlines(keepends=True):
+            for it in drawn_commands.script_in_grammar(self.draw, talk.config).splitlines(keepends=True):
                 if it.endswith(b"\n"):
                     yield it
 
     def serve_session(self, protocol: int, most: int) -> int:
         """Serves an image, loses power, and answers how many images a loss left."""
-        begun = self.begun(protocol)
+        begun = self.draw_begun(protocol)
         data = bytes(begun.folder.disk.newest)
         write_file(IMAGE, data)
         before = read_in_use(data, IMAGE)
@@ -304,7 +304,7 @@ class Losses:
     def leave_out(self, traced: Traced, left: Dict[bytes, Pages], protocol: int) -> None:
         """The same with syncs left out. Of a few each may be one that nothing needed, but not of many."""
         for first in range(self.apart):
-            fewer = traced._replace(trace=list(without(traced.trace, self.apart, first)))
+            fewer = traced._replace(trace=list(trace_without(traced.trace, self.apart, first)))
             gone = len(traced.trace) - len(fewer.trace)
             if gone:
                 noticed = any(self.is_noticed(fewer, left) for _ in range(TRIES))
@@ -321,7 +321,7 @@ class Losses:
             return True
 
 
-def without(trace: List[Event], apart: int, first: int) -> Iterator[Event]:
+def trace_without(trace: List[Event], apart: int, first: int) -> Iterator[Event]:
     """What was done, without the syncs whose numbers leave this rest."""
     number = 0
     for it in trace:

@@ -210,10 +210,10 @@ def step_all_answers(state: State, dies: int) -> Iterator[Answer]:
         yield f"moved {moved} finished {finished}", after
     if state.badread:
         for it in (state, settled):
-            yield from dropped(it._replace(badread=False))
+            yield from dropped_answers(it._replace(badread=False))
     if settled.fault:
         for it in broken_together(settled, dies, settled.fault):
-            yield from dropped(it._replace(fault=""))
+            yield from dropped_answers(it._replace(fault=""))
     if settled.cut:
         yield from cut_answers(settled, broken_together(settled, dies, settled.cut))
 
@@ -230,7 +230,7 @@ def broken_together(settled: State, dies: int, outcome: str) -> Set[State]:
     return left
 
 
-def dropped(state: State) -> Iterator[Answer]:
+def dropped_answers(state: State) -> Iterator[Answer]:
     """The device is mounted again, where a bad read may come."""
     closed = state.settled()._replace(open=())
     yield "dropped", closed

@@ -67,7 +67,7 @@ def draw_file(draw: Draw, number: int) -> Tuple[bytes, Call]:
     if how < 0.3:
         data = keys.draw_script(draw, keys.draw_keys(draw))
     elif how < 0.31:
-        data = commands.at_limits(draw, DEFAULT)
+        data = commands.script_at_limits(draw, DEFAULT)
     else:
         data = commands.draw_commands(draw, DEFAULT, number + 12).data
     if draw.random() < 0.6:

@@ -24,7 +24,7 @@ from typing import Optional
 
 import images as drawn_images
 from image import BPCC, DEFAULT, MAX_FILE, SCC, Image, blank_image, read_image, spell_image
-from in_use import changed_live, filled, read_in_use, spell_live
+from in_use import changed_live, filled_image, read_in_use, spell_live
 from judge import need
 from laws import read
 from live import BUILT, Session, Talk, give_all
@@ -101,7 +101,7 @@ class Kinds(Turns):
         if status in (0, 4):
             return "never"
         need(status == 5 and talk.session.said == DESK_FAULT, f"status {status}, {talk.session.said[:80]!r}")
-        need(not self.beside(), "a file is left beside the image")
+        need(not self.new_files(), "a file is left beside the image")
         return f"{call}, {self.close_left(talk)}"
 
     def kill_in_opening(self, protocol: int) -> str:
@@ -249,7 +249,7 @@ class Kinds(Turns):
         status = talk.session.end()
         need(status == 5 and talk.session.said == DESK_FAULT, f"status {status}, {talk.session.said[:80]!r}")
         need(put == "linked" or read_file(IMAGE) == put, "another file has changed")
-        need(not self.beside(), "a file is left beside the image")
+        need(not self.new_files(), "a file is left beside the image")
         os.replace(MOVED, IMAGE)
         if os.path.exists(MOVED):
             os.remove(MOVED)
@@ -303,7 +303,7 @@ class Kinds(Turns):
         """Opens any image, or any live image file. It is refused as `explain` refuses an image, but for the own bytes
         of empty slots, and then its file stays; or it is served. One that is not sound is an image file then."""
         data = drawn_images.draw_image(self.draw.randrange(1 << 30), self.number).data
-        image = read_image(filled(data))
+        image = read_image(filled_image(data))
         is_live = isinstance(image, Image) and self.draw.random() < 0.5
         data = changed_live(self.draw, image) if is_live else data
         write_file(IMAGE, data)

@@ -277,7 +277,7 @@ def image_commands(draw: random.Random, reading: Reading) -> Optional[bytes]:
         return None
     config = reading.image.config if reading.image else DEFAULT
     if how < 0.06:
-        return drawn_commands.spoiled(draw, config)
+        return drawn_commands.spoiled_script(draw, config)
     return drawn_commands.draw_script(draw, config)
 
 
@@ -323,7 +323,7 @@ RULES = ("short", "magic", "protocol", "reserved", "allowance", "config", "lengt
 LAWS = [f"law {law} {protocol}" for protocol, laws in (("scc", (1, 2, 3, 5, 8)), ("bpcc", range(1, 9))) for law in laws]
 
 
-def rare(counts: Counter[str]) -> List[str]:
+def rare_kinds(counts: Counter[str]) -> List[str]:
     """The rules and laws that were met too seldom."""
     return [it for it in [*(f"rule {it}" for it in RULES), *LAWS] if counts[it] < WANTED]
 
@@ -340,7 +340,7 @@ def sweep(args: argparse.Namespace) -> int:
     differ, slowest = sum(it.differ for it in found), max((it.slowest for it in found), default=0.0)
     for name in sorted(counts):
         print(f"{counts[name]:9} {name}")
-    seldom = rare(counts) if args.images and not args.quick else []
+    seldom = rare_kinds(counts) if args.images and not args.quick else []
     if seldom:
         print(f"sweep: met fewer than {WANTED} times: {', '.join(seldom)}")
     seconds = time.monotonic() - begun

@@ -51,14 +51,15 @@ class Turns:
                    any_in_use(self.draw, image))
         return data
 
-    def beside(self) -> Dict[str, bytes]:
+    def new_files(self) -> Dict[str, bytes]:
         """The files that have names of new ones."""
         return {it: read_file(it) or b"" for it in os.listdir(".") if it.startswith(IMAGE + ".saving")}
 
     def lines(self, config: Config) -> List[bytes]:
         """Lines for a session, some of them bad."""
-        draw = self.draw.choice((drawn_commands.in_grammar, drawn_commands.in_grammar, drawn_commands.spoiled,
-                                 drawn_commands.any_bytes))
+        kinds = (drawn_commands.script_in_grammar, drawn_commands.script_in_grammar, drawn_commands.spoiled_script,
+                 drawn_commands.any_bytes)
+        draw = self.draw.choice(kinds)
         return [it for _ in range(self.draw.choice((1, 1, 4))) for it in
                 draw(self.draw, config).splitlines(keepends=True) if it.endswith(b"\n")]
 
@@ -98,13 +99,13 @@ class Turns:
                 commands = self.write_commands()
                 ended = self.txflash.run(["run", IMAGE, COMMANDS])
                 check_run(strict, left, commands, COMMANDS, ended, read_file(IMAGE))
-        beside = self.beside()
+        beside = self.new_files()
         closed = Session(self.program, [IMAGE])
         status = closed.end()
         need(status == 0 and closed.said == b"serving\n", f"opened again: status {status}, {closed.said[:80]!r}")
         after = read(read_file(IMAGE) or b"", IMAGE)
         need(after.image == in_use.image, "opened and closed it is another image")
-        need(self.beside() == beside, "a file beside the image has changed")
+        need(self.new_files() == beside, "a file beside the image has changed")
         for it in beside:
             os.remove(it)
         what = "at rest" if talk.in_hand is None else "in a command"
@@ -123,6 +124,6 @@ class Turns:
             (os.remove if os.path.islink(it) or not os.path.isdir(it) else shutil.rmtree)(it)
         try:
             self.counts[f"{kind.replace('_', ' ')}: {getattr(self, kind)()}"] += 1
-            need(not self.beside(), "a file beside the image is left")
+            need(not self.new_files(), "a file beside the image is left")
         except Wrong as why:
             self.faults.append(f"turn {self.number}, {kind}: {why}")

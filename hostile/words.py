@@ -54,10 +54,10 @@ def draw_format(draw: Draw, image: str) -> List[str]:
     logical = near(draw, draw.choice((max(1, room - pending), 1)), [0, 1, 65536, 2 ** 32 - 1])
     more = [near(draw, draw.choice((0, 1, 5, MOST_ALLOWED)), [MOST_ALLOWED + 1, 2 ** 32 - 1])] * draw.choice((0, 0, 1))
     words = [draw.choice(("scc", "bpcc")), *map(str, (page, pages, blocks, dies, logical, pending, *more))]
-    return [image, *spoiled(draw, words)]
+    return [image, *spoiled_words(draw, words)]
 
 
-def spoiled(draw: Draw, words: List[str]) -> List[str]:
+def spoiled_words(draw: Draw, words: List[str]) -> List[str]:
     """The same words, or one of them another, one more, or one fewer."""
     how, place = draw.random(), draw.randrange(len(words))
     if how < 0.7:
@@ -94,7 +94,7 @@ def read_drive(words: List[str]) -> Optional[Generated]:
 
 def draw_drive(draw: Draw) -> List[str]:
     start = draw.choice((0, 1, MAX_START, draw.randrange(2 ** 64), draw.randrange(1000)))
-    return spoiled(draw, [str(start), str(draw.choice((0, 1, 2, 10, 50, 200))), draw.choice(("scc", "bpcc"))])
+    return spoiled_words(draw, [str(start), str(draw.choice((0, 1, 2, 10, 50, 200))), draw.choice(("scc", "bpcc"))])
 
 
 class Numbers:
