@@ -19,13 +19,13 @@ from typing import Dict, Iterator, List, NamedTuple, Optional, Sequence
 TOP = os.path.dirname(os.path.dirname(os.path.realpath(__file__)))
 sys.path.insert(0, f"{TOP}/tools")
 
+from call_flash_view import ROW
 from notes import tell
 from programs import NOT_STARTED, built_program, stop_at_signals
 
 SMALL = "scc 16 4 4 2 20 7"
 WORDS = ("current", "loose", "stale", "held", "discard", "damaged", "blank", "!")
 LETTERS = {"c": "current", "l": "loose", "s": "stale", "x": "damaged", ".": "blank", "!": "unsound"}
-ROW = r"((?:block|spare) [0-9 ]{5}| {11})([.!xclsCLS]+)"
 
 STYLE = """
 :root { color-scheme: light dark; --page: #fff; --ink: #222; --dim: #666; --line: #ccc; --here: #e8f0fe; --new: #c00 }
@@ -244,7 +244,7 @@ def text_html(picture: str) -> str:
     """A picture as text. Cells stand between bars, and letters behind a label."""
     lines = []
     for line in picture.splitlines():
-        letters = re.fullmatch(ROW, line)
+        letters = ROW.fullmatch(line)
         if letters:
             lines.append(letters[1] + "".join(map(letter_html, letters[2])))
             continue

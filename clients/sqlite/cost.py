@@ -75,7 +75,7 @@ class Measured:
         return [self.each_second(), self.part(50), self.part(99), self.written / len(self.taken) / 1024]
 
 
-def measured(lines: Sequence[str]) -> Measured:
+def measured_round(lines: Sequence[str]) -> Measured:
     """What the program of commits says of a round."""
     return Measured(float(lines[0].split()[1]), [float(it) for it in lines[1:-1]], int(lines[-1].split()[1]))
 
@@ -152,7 +152,7 @@ def measure(ways: Sequence[Way], folder: str, rounds: int) -> Rounds:
             for place in range(len(ways)):
                 way = ways[(place + number) % len(ways)]
                 said = say(way, "measure", way.word, files[way], str(pages), str(count))
-                results[way, pages].append(measured(said))
+                results[way, pages].append(measured_round(said))
     return results
 
 
@@ -162,12 +162,12 @@ def median_of(rounds: Rounds) -> Results:
             for which, each in rounds.items()}
 
 
-def reading(rounds: Rounds, way: Way) -> float:
+def reading_time(rounds: Rounds, way: Way) -> float:
     """The least that reading a page took, in microseconds."""
     return min(it.reading for pages in COUNTS for it in rounds[way, pages])
 
 
-def beside(results: Results, ways: Sequence[Way], column: int) -> str:
+def times_beside_log(results: Results, ways: Sequence[Way], column: int) -> str:
     """How many times as long as with the log, for each size of commits."""
     def times(way: Way, pages: int) -> float:
         mine, other = results[way, pages][column], results[LOG, pages][column]
@@ -176,7 +176,7 @@ def beside(results: Results, ways: Sequence[Way], column: int) -> str:
     return "; ".join(f"{way.name} {' / '.join(f'{times(way, pages):.2f}' for pages in COUNTS)}" for way in ways)
 
 
-def counted(pages: int) -> str:
+def pages_in_words(pages: int) -> str:
     return f"{pages} page{'s' if pages > 1 else ''}"
 
 
@@ -192,38 +192,40 @@ def table(results: Results, ways: Sequence[Way]) -> List[str]:
 
 def panels(results: Results, ways: Sequence[Way]) -> List[Panel]:
     def groups(column: int) -> List[Group]:
-        return [Group(counted(pages), [results[way, pages][column] for way in ways]) for pages in COUNTS]
+        return [Group(pages_in_words(pages), [results[way, pages][column] for way in ways]) for pages in COUNTS]
 
     return [Panel(COLUMNS[0], groups(0)), Panel("KiB written for a commit", groups(3))]
 
 
-def wrapped(words: str) -> List[str]:
+def wrapped_lines(words: str) -> List[str]:
     return textwrap.wrap(words, 120, break_on_hyphens=False)
 
 
 def report(rounds: Rounds, ways: Sequence[Way], folder: str, sync: float, load: float) -> List[str]:
     device, kind = disk_of(folder)
     number, results = len(rounds[DEVICE, 1]), median_of(rounds)
-    commits = ", ".join(f"{count} of {counted(pages)}" for pages, count in COUNTS.items())
+    commits = ", ".join(f"{count} of {pages_in_words(pages)}" for pages, count in COUNTS.items())
     priority = ", at real-time priority" if os.sched_getscheduler(0) in (os.SCHED_RR, os.SCHED_FIFO) else ""
     shared = ", with all on one of them" if len(os.sched_getaffinity(0)) == 1 else ""
     devices = [way for way in ways if way.word in ("device", "lines")]
     own = " / ".join(f"{results[DEVICE, pages][1] - results[CALLS, pages][1]:.2f}" for pages in COUNTS)
     return [
-        *wrapped(
+        *wrapped_lines(
             f"Measured on {processor()}{shared}, {kind} on {device}, SQLite {say(LOG, 'version')[0]}. A sync of a page "
             f"took {sync:.2f} ms there. A cell has commits of {', '.join(map(str, COUNTS))} pages, each the median of "
             f"{number} rounds, a round with {commits}. The load of the machine was {load:.1f} before, and "
             f"{os.getloadavg()[0]:.1f} after{priority}. A page that is not in SQLite's cache takes "
-            f"{reading(rounds, LOG):.0f} µs from a file in the memory of the system, and "
-            f"{reading(rounds, DEVICE):.0f} µs from the device."
+            f"{reading_time(rounds, LOG):.0f} µs from a file in the memory of the system, and "
+            f"{reading_time(rounds, DEVICE):.0f} µs from the device."
         ),
         "",
         *table(results, ways),
         "",
-        *wrapped(f"Median times beside the log's: {beside(results, devices, 1)}. With checkpoints and collections, by "
-                 f"commits a second: {beside(results, devices, 0)}. Of the device's median the VFS and flash_serve "
-                 f"take {own} ms, and the writes and the sync the rest."),
+        *wrapped_lines(
+            f"Median times beside the log's: {times_beside_log(results, devices, 1)}. With checkpoints and "
+            f"collections, by commits a second: {times_beside_log(results, devices, 0)}. Of the device's median the "
+            f"VFS and flash_serve take {own} ms, and the writes and the sync the rest."
+        ),
         "",
         "![The table as a picture](cost.svg)",
     ]

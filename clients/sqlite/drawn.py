@@ -99,12 +99,13 @@ class Pair:
         self.statements = Statements(draw, page_bytes)
         self.counts: Counter[str] = collections.Counter()
         self.memory = sqlite3.connect(":memory:", isolation_level=None)
-        self.device = self.opened()
+        self.device = self.open_device()
         self.device.execute(f"PRAGMA page_size={page_bytes}")
         self.device.execute(f"PRAGMA auto_vacuum={draw.randrange(3)}")
-        self.both("CREATE TABLE t0(n INTEGER PRIMARY KEY, v, w)")
+        self.give_both("CREATE TABLE t0(n INTEGER PRIMARY KEY, v, w)")
 
-    def opened(self) -> sqlite3.Connection:
+    def open_device(self) -> sqlite3.Connection:
+        """Opens the database in the device, with other pragmas each time."""
         device = sqlite3.connect(f"file:{self.image}?vfs=txflash", uri=True, isolation_level=None)
         for name, values in (("cache_size", (2, 5, 50, 2000)), ("synchronous", ("off", "normal", "full")),
                              ("journal_mode", ("delete", "truncate", "persist", "memory")),
@@ -112,7 +113,7 @@ class Pair:
             device.execute(f"PRAGMA {name}={self.draw.choice(values)}")
         return device
 
-    def both(self, sql: str) -> bool:
+    def give_both(self, sql: str) -> bool:
         """Whether the device had room for it. What both refuse alike is none of its business."""
         found: List[Optional[sqlite3.Error]] = []
         for it in (self.memory, self.device):
@@ -127,18 +128,18 @@ class Pair:
 
     def transaction(self) -> bool:
         """Begins and ends one; whether the device took all of it."""
-        self.both("BEGIN")
+        self.give_both("BEGIN")
         for _ in range(self.draw.choice((1, 1, 3, 8))):
             if self.draw.random() < 0.15:
-                if not (self.both("SAVEPOINT s") and self.both(self.statements.any())):
+                if not (self.give_both("SAVEPOINT s") and self.give_both(self.statements.any())):
                     return False
-                self.both(self.draw.choice(("ROLLBACK TO s", "RELEASE s")))
-            if not self.both(self.statements.any()):
+                self.give_both(self.draw.choice(("ROLLBACK TO s", "RELEASE s")))
+            if not self.give_both(self.statements.any()):
                 return False
         if self.draw.random() < 0.25:
             self.counts["rolled back"] += 1
-            return self.both("ROLLBACK")
-        return self.both("COMMIT")
+            return self.give_both("ROLLBACK")
+        return self.give_both("COMMIT")
 
     def take_back(self, before: List[str]) -> None:
         """Puts both to where they were before a transaction that the device refused."""
@@ -155,14 +156,14 @@ class Pair:
         if not self.transaction():
             self.take_back(before)
         if self.draw.random() < 0.1:
-            self.counts["vacuumed"] += self.both(self.draw.choice(("VACUUM", "PRAGMA incremental_vacuum")))
+            self.counts["vacuumed"] += self.give_both(self.draw.choice(("VACUUM", "PRAGMA incremental_vacuum")))
         if self.draw.random() < 0.15:
             self.counts["opened again"] += 1
             self.device.close()
-            self.device = self.opened()
+            self.device = self.open_device()
         if self.compare() > LONGEST:
             before = list(self.memory.iterdump())
-            if not self.both("DELETE FROM t0"):
+            if not self.give_both("DELETE FROM t0"):
                 self.take_back(before)
 
     def compare(self) -> int:

@@ -21,7 +21,7 @@ sys.dont_write_bytecode = True
 from openings import openings  # noqa: E402
 from pictures import Chart, save_chart  # noqa: E402
 from progress import tell  # noqa: E402
-from replayed import replayed  # noqa: E402
+from replay import replay  # noqa: E402
 from serving import built_program  # noqa: E402
 from shape import Problem  # noqa: E402
 from sheets import Table, save_table, text_lines  # noqa: E402
@@ -48,6 +48,7 @@ NUMBERS = (
 
 
 def parser() -> argparse.ArgumentParser:
+    """The words of a call."""
     made = argparse.ArgumentParser(description=(__doc__ or "").split("\n")[0])
     made.add_argument("program", metavar="PROGRAM", help="the built program, or ./txflash")
     made.add_argument("--out", default="compare-out", metavar="FOLDER")
@@ -78,14 +79,16 @@ class Output:
         self.folder = folder
         os.makedirs(folder, exist_ok=True)
 
-    def table(self, table: Table) -> None:
+    def add_table(self, table: Table) -> None:
+        """Saves a table, and says it."""
         save_table(self.folder, table)
         self.say(text_lines(table))
 
     def say(self, lines: List[str]) -> None:
         print("\n".join(lines) + "\n", flush=True)
 
-    def chart(self, chart: Chart) -> None:
+    def add_chart(self, chart: Chart) -> None:
+        """Saves a picture."""
         save_chart(self.folder, chart)
 
 
@@ -98,28 +101,29 @@ def compare_protocols(program: str, base: Base, output: Output) -> None:
             continue
         save_table(output.folder, table_of(study, counted))
         output.say(text_lines(brief_of(study, counted)))
-        output.chart(chart_of(study, base, counted))
+        output.add_chart(chart_of(study, base, counted))
         all_counted += counted
     output.say([note_on(all_counted)])
     table, chart = over_time(program, base, EVERY)
     save_table(output.folder, table)
-    output.chart(chart)
+    output.add_chart(chart)
     tables, charts = wear(program, base.work)
     for table in tables:
-        output.table(table)
+        output.add_table(table)
     for chart in charts:
-        output.chart(chart)
+        output.add_chart(chart)
 
 
 def compare(program: str, base: Base, output: Output) -> None:
+    """All tables and pictures."""
     compare_protocols(program, base, output)
     results = all_ways(program, output.folder, base.work.seed)
     for table in results.tables:
-        output.table(table)
+        output.add_table(table)
     for chart in results.charts:
-        output.chart(chart)
+        output.add_chart(chart)
     output.say(results.notes)
-    output.table(openings(program))
+    output.add_table(openings(program))
 
 
 def main(words: List[str]) -> int:
@@ -129,9 +133,9 @@ def main(words: List[str]) -> int:
         program = built_program(options.program)
         output = Output(options.out)
         if options.trace:
-            for table, chart in replayed(program, options, base):
-                output.table(table)
-                output.chart(chart)
+            for table, chart in replay(program, options, base):
+                output.add_table(table)
+                output.add_chart(chart)
         else:
             compare(program, base, output)
     except (Problem, OSError) as problem:

@@ -81,7 +81,7 @@ class Counter:
             numbers[words[0]] += 1
 
 
-def marked(parts: Iterable[List[str]], every: int) -> Iterator[List[str]]:
+def marked_parts(parts: Iterable[List[str]], every: int) -> Iterator[List[str]]:
     """The parts with a `stats` behind each so many of them, and behind the last."""
     number = 0
     for number, part in enumerate(parts, 1):
@@ -94,7 +94,7 @@ def points(flash: Flash, first: Iterable[List[str]], parts: Iterable[List[str]],
     """The counts after each so many parts, from the end of what comes first, which is counted as nothing."""
     counter = Counter()
     found: List[Count] = []
-    for run in runs_of([*first, ["stats"], *marked(parts, every)]):
+    for run in runs_of([*first, ["stats"], *marked_parts(parts, every)]):
         counter.next_run()
         # The last reply tells what a run did that ends between two points.
         *replies, last = flash.run([*run, "stats"])

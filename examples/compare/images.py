@@ -4,9 +4,8 @@ from __future__ import annotations
 import struct
 from typing import List, NamedTuple, Optional
 
-from shape import Problem, Shape
+from shape import HEADER_BYTES, SPARE_BYTES, Problem, Shape
 
-HEADER_BYTES, SPARE_BYTES = 64, 64
 BLANK, COMPLETE, DAMAGED = 0, 1, 2
 RECORD = struct.Struct("<4sBBHIIQQ")
 
@@ -48,7 +47,7 @@ def read_slots(image: bytes, shape: Shape) -> List[Slot]:
     return [Slot(state, record_of(spare) if state == COMPLETE else None) for state, spare in zip(states, spares)]
 
 
-def erased(before: List[Slot], after: List[Slot], shape: Shape) -> List[int]:
+def erased_blocks(before: List[Slot], after: List[Slot], shape: Shape) -> List[int]:
     """The blocks in which a slot that was written is blank or holds another record."""
     return sorted(
         {

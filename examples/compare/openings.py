@@ -8,19 +8,11 @@ from progress import tell
 from serving import Flash
 from shape import PROTOCOLS, Shape
 from sheets import Cell, Table
+from work import fill
 
 SHAPE = Shape(16, 16, 1024, 4, 60000, 256)
 RECORDS = (0, 1000, 10000, 30000, 60000)
 REPEATS = 5
-
-
-def filling(records: int) -> List[str]:
-    """Commands that write so many pages once."""
-    lines: List[str] = []
-    for start in range(0, records, SHAPE.pending):
-        pages = range(start, min(start + SHAPE.pending, records))
-        lines += ["write 0 " + " ".join(f"{page}=01" for page in pages), "finish 0"]
-    return lines
 
 
 def seconds(flash: Flash) -> float:
@@ -41,7 +33,7 @@ def openings(program: str) -> Table:
         blank: Optional[float] = None
         for records in RECORDS:
             with Flash(program, SHAPE, protocol) as flash:
-                flash.run(filling(records))
+                flash.run(line for part in fill(records, SHAPE.pending) for line in part)
                 taken = seconds(flash)
             blank = taken if blank is None else blank
             rows.append([protocol, records, 1000 * taken, 1000 * max(0.0, taken - blank)])

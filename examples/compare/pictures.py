@@ -99,7 +99,7 @@ def frame(chart: Chart, across: Axis, up: Axis) -> List[str]:
     return parts
 
 
-def drawn(number: int, series: Series, across: Axis, up: Axis) -> List[str]:
+def series_parts(number: int, series: Series, across: Axis, up: Axis) -> List[str]:
     """One line with a dot at each point, and its name in the list at the right."""
     colour, width, dashes = STYLES[number % len(STYLES)]
     stroke = f'stroke="{colour}" stroke-width="{width}" stroke-linejoin="round" fill="none"'
@@ -120,7 +120,7 @@ def drawn(number: int, series: Series, across: Axis, up: Axis) -> List[str]:
 def svg(chart: Chart) -> str:
     """The whole picture."""
     across, up = axes_of(chart)
-    lines = [part for number, series in enumerate(chart.series) for part in drawn(number, series, across, up)]
+    lines = [part for number, series in enumerate(chart.series) for part in series_parts(number, series, across, up)]
     return "\n".join(
         [
             f'<svg xmlns="http://www.w3.org/2000/svg" viewBox="0 0 {WIDTH} {HEIGHT}" style="max-width:100%" '

@@ -30,12 +30,13 @@ def shape_for(pages: int, base: Base) -> Shape:
     return shape
 
 
-def served(program: str, shape: Shape, parts: List[List[str]], every: int, protocol: str) -> List[Count]:
+def count_points(program: str, shape: Shape, parts: List[List[str]], every: int, protocol: str) -> List[Count]:
+    """The counts of one protocol after each so many parts, on a blank device."""
     with Flash(program, shape, protocol) as flash:
         return points(flash, [], parts, every)
 
 
-def replayed(program: str, options: argparse.Namespace, base: Base) -> Iterator[Tuple[Table, Chart]]:
+def replay(program: str, options: argparse.Namespace, base: Base) -> Iterator[Tuple[Table, Chart]]:
     """The counts over time. The device is blank at first: a trace does not tell what was there before it."""
     numbers = Numbers(options.page)
     requests = load_trace(options.trace, options.action)
@@ -44,7 +45,7 @@ def replayed(program: str, options: argparse.Namespace, base: Base) -> Iterator[
         raise Problem("the trace has no request that writes or trims: choose other events with --action")
     shape = shape_for(len(numbers.found), base)
     every = -(-len(parts) // POINTS)
-    tasks = [partial(served, program, shape, parts, every, protocol) for protocol in PROTOCOLS]
+    tasks = [partial(count_points, program, shape, parts, every, protocol) for protocol in PROTOCOLS]
     rows: List[Sequence[Cell]] = []
     series: List[Series] = []
     for protocol, found in zip(PROTOCOLS, all_of("trace", tasks)):

@@ -14,11 +14,12 @@ sys.path.append(os.path.join(os.path.dirname(os.path.abspath(__file__)), "..", "
 
 from bank import Bank  # noqa: E402
 from history import record  # noqa: E402
-from journals import Written, journal_lengths, with_journal, with_log  # noqa: E402
+from journals import Written, journal_lengths, journal_writes, log_writes  # noqa: E402
 
 from counts import total  # noqa: E402
 from serving import Flash  # noqa: E402
 from shape import Shape  # noqa: E402
+from work import fill  # noqa: E402
 
 BLOCK = 8
 ROUNDS = 3
@@ -61,9 +62,7 @@ class Way:
 
     def load(self) -> Iterator[List[str]]:
         """The commands that bring the database to the device."""
-        for start in range(0, self.database, self.pending):
-            pages = range(start, min(start + self.pending, self.database))
-            yield ["write 0 " + " ".join(f"{page}=01" for page in pages), "finish 0"]
+        return fill(self.database, self.pending)
 
     def parts(self) -> Iterator[List[str]]:
         """The commands of each commit. What is in a page does not matter here."""
@@ -78,8 +77,8 @@ def written_commits(all_written: Sequence[Written], pages: int, page_bytes: int)
     """What SQLite writes for each commit: a journal or log behind so many pages of the database, and its file."""
     commits = []
     for written in all_written:
-        beside = range(written.start // page_bytes, -(-written.end // page_bytes))
-        commits.append(Commit([*(pages + page for page in beside), *(page - 1 for page in written.database)]))
+        beside = [pages + page for page in written.pages(page_bytes)]
+        commits.append(Commit([*beside, *(page - 1 for page in written.database)]))
     return commits
 
 
@@ -87,16 +86,16 @@ def ways_of(page_bytes: int, folder: str, seed: int) -> List[Way]:
     """All ways, for the history of a bank whose database has pages of that size."""
     bank = replace(BANKS[page_bytes], seed=seed)
     history = record(folder, bank, page_bytes)
-    commits, pages = history.after_opening(), history.largest()
+    commits, pages = history.later_commits(), history.largest()
     own = [Commit(sorted(page - 1 for page in commit.pages)) for commit in commits if commit.pages]
-    journal = with_journal(commits, journal_lengths(folder, bank, page_bytes))
+    journal = journal_writes(commits, journal_lengths(folder, bank, page_bytes))
 
     def single(name: str, all_written: Sequence[Written]) -> Way:
         return Way(name, "scc", pages, written_commits(all_written, pages, page_bytes), False)
 
     return [
-        single("log, checkpoint at 1000", with_log(commits, page_bytes, 1000)),
-        single("log, checkpoint at 100", with_log(commits, page_bytes, 100)),
+        single("log, checkpoint at 1000", log_writes(commits, page_bytes, 1000)),
+        single("log, checkpoint at 100", log_writes(commits, page_bytes, 100)),
         Way("transactions, scc", "scc", pages, own, True),
         Way("transactions, bpcc", "bpcc", pages, own, True),
         single("rollback journal", journal),

@@ -3,12 +3,14 @@ from __future__ import annotations
 
 import os
 import subprocess
+import sys
 from typing import Dict, Iterable, Iterator, List, Tuple
 
-from shape import Problem, Shape
+sys.path.append(os.path.join(os.path.dirname(os.path.abspath(__file__)), "..", "database"))
 
-MOST_COMMANDS = 65536
-MOST_ENTRIES = 262144
+from command_files import Piece, files_of  # noqa: E402
+
+from shape import Problem, Shape  # noqa: E402
 
 
 def built_program(path: str) -> str:
@@ -82,17 +84,8 @@ class Flash:
 
 def runs_of(parts: Iterable[List[str]]) -> Iterator[List[str]]:
     """The parts in their order as commands of as few runs as a file's limits ask. No part is divided."""
-    run: List[str] = []
-    entries = 0
-    for part in parts:
-        more = sum(line.count("=") for line in part)
-        if run and (len(run) + len(part) > MOST_COMMANDS or entries + more > MOST_ENTRIES):
-            yield run
-            run, entries = [], 0
-        run.extend(part)
-        entries += more
-    if run:
-        yield run
+    for file in files_of(map(Piece, parts)):
+        yield [line for piece in file for line in piece.lines]
 
 
 def text_numbers(line: str) -> Dict[str, int]:

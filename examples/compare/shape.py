@@ -5,6 +5,7 @@ from dataclasses import dataclass
 from typing import List
 
 MOST_SLOTS = 65536
+HEADER_BYTES, SPARE_BYTES = 64, 64
 PROTOCOLS = ("scc", "bpcc")
 
 
@@ -31,7 +32,7 @@ class Shape:
 
     @property
     def image_bytes(self) -> int:
-        return 64 + self.slots * (65 + self.page_bytes)
+        return HEADER_BYTES + self.slots * (1 + self.page_bytes + SPARE_BYTES)
 
     @property
     def fits(self) -> bool:

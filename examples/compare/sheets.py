@@ -18,7 +18,7 @@ class Table:
     rows: Sequence[Sequence[Cell]]
 
 
-def spelled(cell: Cell, nothing: str = "--") -> str:
+def cell_text(cell: Cell, nothing: str = "--") -> str:
     """A cell as text: a fraction with two digits behind the point, and `--` for what does not fit."""
     if cell is None:
         return nothing
@@ -27,7 +27,7 @@ def spelled(cell: Cell, nothing: str = "--") -> str:
 
 def text_lines(table: Table) -> List[str]:
     """The title, and lines with the first column to the left and the others to the right."""
-    lines = [list(table.head), *([spelled(cell) for cell in row] for row in table.rows)]
+    lines = [list(table.head), *([cell_text(cell) for cell in row] for row in table.rows)]
     widths = [max(len(line[column]) for line in lines) for column in range(len(table.head))]
     return [
         table.title,
@@ -44,5 +44,5 @@ def save_table(folder: str, table: Table) -> str:
     with open(path, "w", encoding="utf-8", newline="") as out:
         writer = csv.writer(out, lineterminator="\n")
         writer.writerow(table.head)
-        writer.writerows([spelled(cell, "") for cell in row] for row in table.rows)
+        writer.writerows([cell_text(cell, "") for cell in row] for row in table.rows)
     return path

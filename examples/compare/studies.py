@@ -95,10 +95,10 @@ class Counted(NamedTuple):
         return self.protocol if self.variant == "base" else f"{self.protocol}, {self.variant}"
 
 
-def served(program: str, base: Base) -> List[Count]:
+def count_base(program: str, base: Base) -> List[Count]:
     """What each protocol did for the same work, from the end of the first filling."""
     shape = base.shape()
-    first, parts = list(fill(shape)), list(transactions(base.work, shape))
+    first, parts = list(fill(shape.logical, shape.pending)), list(transactions(base.work, shape))
     counts = []
     for protocol in PROTOCOLS:
         with Flash(program, shape, protocol) as flash:
@@ -124,7 +124,7 @@ def count_study(program: str, study: Study, base: Base) -> List[Counted]:
         for value in study.values
     ]
     cells = [(value, variant, own) for value, variant, own in drawn if is_possible(study, value, own)]
-    all_counts = all_of(study.name, [partial(served, program, own) for _, _, own in cells])
+    all_counts = all_of(study.name, [partial(count_base, program, own) for _, _, own in cells])
     return [
         Counted(value, variant, protocol, count)
         for (value, variant, _), counts in zip(cells, all_counts)
@@ -158,7 +158,7 @@ def brief_of(study: Study, counted: Sequence[Counted]) -> Table:
     return Table(study.name, study.title, head, rows)
 
 
-def under(base: Base, left_out: Set[str]) -> str:
+def subtitle(base: Base, left_out: Set[str]) -> str:
     """The work and the device in words, but for the numbers that are varied."""
     work = base.work
     words = [
@@ -180,7 +180,7 @@ def chart_of(study: Study, base: Base, counted: Sequence[Counted]) -> Chart:
     for one in counted:
         lines.setdefault(one.line, []).append((one.value, one.result.amplification))
     series = [Series(name, places) for name, places in lines.items()]
-    return Chart(study.name, study.title, under(base, study.varied()), study.axis, PROGRAMMED, series)
+    return Chart(study.name, study.title, subtitle(base, study.varied()), study.axis, PROGRAMMED, series)
 
 
 def note_on(all_counted: Sequence[Counted]) -> str:
@@ -202,16 +202,17 @@ def windows(found: Sequence[Count]) -> List[Count]:
     return [after.since(before) for before, after in zip([Count(), *found], found)]
 
 
-def found_over_time(program: str, base: Base, every: int, protocol: str) -> List[Count]:
+def count_over_time(program: str, base: Base, every: int, protocol: str) -> List[Count]:
+    """The counts of one protocol after each so many transactions."""
     shape = base.shape()
     with Flash(program, shape, protocol) as flash:
-        return points(flash, fill(shape), transactions(base.work, shape), every)
+        return points(flash, fill(shape.logical, shape.pending), transactions(base.work, shape), every)
 
 
 def over_time(program: str, base: Base, every: int) -> Tuple[Table, Chart]:
     """Pages programmed for each page written, from each so many transactions to the next."""
     cells = [(name, base.varied(more), protocol) for name, more in ABORTS for protocol in PROTOCOLS]
-    tasks = [partial(found_over_time, program, own, every, protocol) for _, own, protocol in cells]
+    tasks = [partial(count_over_time, program, own, every, protocol) for _, own, protocol in cells]
     rows: List[Sequence[Cell]] = []
     series: List[Series] = []
     for (name, _, protocol), counts in zip(cells, all_of("over_time", tasks)):
@@ -221,4 +222,4 @@ def over_time(program: str, base: Base, every: int) -> Tuple[Table, Chart]:
         series.append(Series(f"{protocol}, {name}", places))
     title = f"Over time, {every} transactions to a point"
     table = Table("over_time", title, ("work", "transactions", *HEAD), rows)
-    return table, Chart("over_time", title, under(base, {"aborts"}), "transactions", PROGRAMMED, series)
+    return table, Chart("over_time", title, subtitle(base, {"aborts"}), "transactions", PROGRAMMED, series)

@@ -44,7 +44,7 @@ class Request(NamedTuple):
     bytes: int
 
 
-def bad(number: int, line: str, what: str) -> Problem:
+def bad_line(number: int, line: str, what: str) -> Problem:
     return Problem(f"line {number} is {what}: {line.strip()[:80]}")
 
 
@@ -52,7 +52,7 @@ def read_event(number: int, line: str, action: str) -> Optional[Request]:
     """The request of an event of blktrace, None where it is no write, no discard or another action."""
     found = EVENT.match(line)
     if not found:
-        raise bad(number, line, "no event of blktrace")
+        raise bad_line(number, line, "no event of blktrace")
     disk, letter, kind, rest = found.groups()
     # F before W is a flush alone, which has no place. D is a discard, and is told before W.
     wanted = DISCARD if "D" in kind else WRITE if "W" in kind else None
@@ -62,7 +62,7 @@ def read_event(number: int, line: str, action: str) -> Optional[Request]:
     if place is None:
         if kind.startswith("F"):
             return None
-        raise bad(number, line, "a write of blktrace without a place")
+        raise bad_line(number, line, "a write of blktrace without a place")
     start, sectors = map(int, place.groups())
     return Request(wanted, disk, start * SECTOR, sectors * SECTOR)
 
@@ -85,7 +85,7 @@ def read_io(number: int, line: str, words: List[str]) -> Optional[Request]:
     if len(words) == 4 and words[1] in OTHER_ACTIONS or len(words) in (2, 3) and words[1] in OTHER_ACTIONS[1:]:
         return None
     if len(words) != 4 or words[1] not in ACTIONS or not (words[2].isdigit() and words[3].isdigit()):
-        raise bad(number, line, "no line of an iolog of fio")
+        raise bad_line(number, line, "no line of an iolog of fio")
     return Request(ACTIONS[words[1]], words[0], int(words[2]), int(words[3]))
 
 
@@ -101,7 +101,7 @@ def iolog_requests(lines: Iterable[str]) -> Iterator[Request]:
             continue
         if version == 3:
             if not words[0].isdigit():
-                raise bad(number, line, "no line of an iolog of version 3, which begins with a time")
+                raise bad_line(number, line, "no line of an iolog of version 3, which begins with a time")
             words = words[1:]
         request = read_io(number, line, words)
         if request and request.bytes:
@@ -116,7 +116,7 @@ def requests_of(text: str, action: str = "Q") -> List[Request]:
     if re.fullmatch(r"fio version [23] iolog", lines[0].strip()):
         return list(iolog_requests(lines))
     if lines[0].startswith("fio version"):
-        raise bad(1, lines[0], "no version of an iolog that this reads, which are 2 and 3")
+        raise bad_line(1, lines[0], "no version of an iolog that this reads, which are 2 and 3")
     return list(blktrace_requests(lines, action))
 
 

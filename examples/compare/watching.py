@@ -9,7 +9,7 @@ from collections import Counter
 from dataclasses import dataclass, field
 from typing import Dict, Iterable, List, NamedTuple, Set
 
-from images import Record, Slot, erased, read_slots
+from images import Record, Slot, erased_blocks, read_slots
 from serving import Flash, text_numbers
 
 
@@ -85,7 +85,7 @@ def look(flash: Flash, commands: List[str]) -> Look:
     return Look(read_slots(image, flash.shape), current, numbers["programs"], numbers["erases"])
 
 
-def step_seen(before: Look, after: Look, command: str, own: Set[Record], watched: Watched) -> None:
+def count_step(before: Look, after: Look, command: str, own: Set[Record], watched: Watched) -> None:
     """Counts what one step did. `own` are the records that its transaction has on the flash."""
     new = {slot.record for slot in after.slots if slot.record} - {slot.record for slot in before.slots if slot.record}
     if not command.startswith("step ") or len(new) != 1:
@@ -115,9 +115,9 @@ def watch(flash: Flash, first: List[str], commands: List[str], every: int) -> Wa
             own, after = set(), before
         else:
             after = look(flash, first + commands[:number])
-        for block in erased(before.slots, after.slots, flash.shape):
+        for block in erased_blocks(before.slots, after.slots, flash.shape):
             watched.erases[block] += 1
-        step_seen(before, after, command, own, watched)
+        count_step(before, after, command, own, watched)
         if number % every == 0 or number == len(commands):
             watched.points.append(watched.point(number, blocks, len(after.loose())))
         before = after

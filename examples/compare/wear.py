@@ -37,7 +37,7 @@ def small_shape() -> Shape:
 def see(program: str, base: Work, name: str, protocol: str) -> Seen:
     shape = small_shape()
     work = replace(base, least=1, most=4, transactions=TRANSACTIONS, **WORKS[name])
-    first = [line for part in fill(shape) for line in part]
+    first = [line for part in fill(shape.logical, shape.pending) for line in part]
     with Flash(program, shape, protocol) as flash:
         watched = watch(flash, first, in_steps(transactions(work, shape)), EVERY)
     return Seen(name, protocol, watched, [watched.erases.get(block, 0) for block in range(shape.slots // shape.block)])

@@ -48,7 +48,7 @@ def page_drawer(chance: random.Random, pages: int, exponent: float) -> Callable[
     return lambda: by_rank[min(bisect(sums, chance.random() * sums[-1]), pages - 1)]
 
 
-def distinct(draw: Callable[[], int], count: int) -> List[int]:
+def distinct_pages(draw: Callable[[], int], count: int) -> List[int]:
     """So many different pages, in the order in which they were drawn."""
     pages: List[int] = []
     while len(pages) < count:
@@ -58,16 +58,16 @@ def distinct(draw: Callable[[], int], count: int) -> List[int]:
     return pages
 
 
-def fill(shape: Shape) -> Iterator[Lines]:
-    """Each page of the host once, in transactions of as many pages as may be pending."""
-    for start in range(0, shape.logical, shape.pending):
-        pages = range(start, min(start + shape.pending, shape.logical))
+def fill(count: int, pending: int) -> Iterator[Lines]:
+    """So many pages once each, in transactions of as many as may be pending."""
+    for start in range(0, count, pending):
+        pages = range(start, min(start + pending, count))
         yield ["write 0 " + " ".join(f"{page}=01" for page in pages), "finish 0"]
 
 
 def transaction(chance: random.Random, work: Work, draw: Callable[[], int], tag: int) -> Lines:
     """The commands of one transaction. A cut comes at the first program or erase of one of its steps."""
-    pages = distinct(draw, chance.randint(work.least, work.most))
+    pages = distinct_pages(draw, chance.randint(work.least, work.most))
     entries = [f"{page}=~" if chance.random() < work.discards else f"{page}={tag % 255 + 1:02x}" for page in pages]
     opening = f"write {tag} " + " ".join(entries)
     kind, part = chance.random(), chance.randrange(len(pages))

@@ -23,7 +23,7 @@ from bench import Bench
 from command_files import Piece
 from device import Program, load_device
 from history import History, record
-from journals import Written, journal_lengths, with_journal, with_log
+from journals import Written, journal_lengths, journal_writes, log_writes
 from plan import check, load, replay
 from problems import Problem
 from tables import bars, table
@@ -49,26 +49,21 @@ class Way:
     pieces: List[Piece]
 
 
-def pages_of(written: Written) -> range:
-    """The pages of a journal or log that bytes stand in."""
-    return range(written.start // PAGE_BYTES, -(-written.end // PAGE_BYTES))
-
-
 def single_writes(all_written: Sequence[Written], pages: int) -> Iterator[Piece]:
     """The same writes on a device, page by page. What is in a page does not matter here."""
     for written in all_written:
-        places = [pages + page for page in pages_of(written)] + [page - 1 for page in written.database]
+        places = [pages + page for page in written.pages(PAGE_BYTES)] + [page - 1 for page in written.database]
         yield Piece([line for place in places for line in (f"write 0 {place}=01", "finish 0")])
 
 
-def handed_over(all_written: Sequence[Written]) -> float:
+def handed_pages(all_written: Sequence[Written]) -> float:
     """How many pages the bytes of a commit are."""
     return sum(written.bytes(PAGE_BYTES) for written in all_written) / PAGE_BYTES / len(all_written)
 
 
 def way_of(name: str, all_written: Sequence[Written], pages: int) -> Way:
-    area = max(pages_of(written).stop for written in all_written)
-    return Way(name, "scc", handed_over(all_written), area, list(single_writes(all_written, pages)))
+    area = max(written.pages(PAGE_BYTES).stop for written in all_written)
+    return Way(name, "scc", handed_pages(all_written), area, list(single_writes(all_written, pages)))
 
 
 def ways(history: History, commits: Sequence[Commit], lengths: Sequence[int], frames: int) -> List[Way]:
@@ -77,8 +72,8 @@ def ways(history: History, commits: Sequence[Commit], lengths: Sequence[int], fr
     transactions = list(replay(commits))
     return [
         *(Way(f"transactions, {protocol}", protocol, changed, 0, transactions) for protocol in ("scc", "bpcc")),
-        way_of(f"log, checkpoint at {frames}", with_log(commits, PAGE_BYTES, frames), pages),
-        way_of("journal", with_journal(commits, lengths), pages),
+        way_of(f"log, checkpoint at {frames}", log_writes(commits, PAGE_BYTES, frames), pages),
+        way_of("journal", journal_writes(commits, lengths), pages),
     ]
 
 
@@ -96,8 +91,8 @@ def programs(bench: Bench, history: History, way: Way, percent: int) -> float:
     bench.program.format(image, [way.protocol, *map(str, numbers)])
     device = load_device(image)
     check(history.begun.pages, history.log.commits, PAGE_BYTES, device)
-    bench.programs(image, [*load(history.begun.pages, device), *replay(history.opening())])
-    return bench.programs(image, way.pieces) / len(history.after_opening())
+    bench.programs(image, [*load(history.begun.pages, device), *replay(history.opening_commits())])
+    return bench.programs(image, way.pieces) / len(history.later_commits())
 
 
 def count(program: Program, folder: str, history: History, all_ways: Sequence[Way]) -> Dict[str, List[float]]:
@@ -125,9 +120,9 @@ def work(program: Program, frames: int) -> None:
     with tempfile.TemporaryDirectory() as folder:
         history = record(folder, BANK, PAGE_BYTES)
         lengths = journal_lengths(folder, BANK, PAGE_BYTES)
-        commits = history.after_opening()
+        commits = history.later_commits()
         counted = count(program, folder, history, ways(history, commits, lengths, frames))
-    usual = handed_over(with_log(commits, PAGE_BYTES, DEFAULT_FRAMES))
+    usual = handed_pages(log_writes(commits, PAGE_BYTES, DEFAULT_FRAMES))
     print(f"{len(commits)} commits on a database of {history.largest()} pages")
     print("\n".join(report(counted)))
     print(f"(The log with SQLite's own checkpoint at {DEFAULT_FRAMES} frames hands over {usual:.1f}.)")

@@ -64,7 +64,7 @@ def check_audit(found: Audit) -> None:
         raise Difference(f"the sum of all accounts is {found.sum}, and was {SMALL.money()}")
 
 
-def chosen(history: History, seed: int) -> Dict[int, Break]:
+def chosen_breaks(history: History, seed: int) -> Dict[int, Break]:
     """The commits that are broken, by their numbers, and how. All come after the accounts were opened."""
     chance = Chance(seed)
     commits = history.log.commits
@@ -109,7 +109,7 @@ def serve_history(bench: Bench, protocol: str, history: History, seed: int) -> C
     device = load_device(image)
     check(history.begun.pages, history.log.commits, history.log.page_bytes, device)
     bench.serve(image, list(load(history.begun.pages, device)))
-    counts = serve_trials(bench, image, list(trials(history, chosen(history, seed))))
+    counts = serve_trials(bench, image, list(trials(history, chosen_breaks(history, seed))))
     *_, last = history.states()
     said = bench.serve(image, [Piece(list(reads(device.logical)))])
     file = read_back(pages_read(said), "at the end")

@@ -33,10 +33,11 @@ class History:
     """How many commits there are before the first transfer."""
     log: Log
 
-    def opening(self) -> List[Commit]:
+    def opening_commits(self) -> List[Commit]:
         return self.log.commits[: self.opened]
 
-    def after_opening(self) -> List[Commit]:
+    def later_commits(self) -> List[Commit]:
+        """Those after the accounts were opened."""
         return self.log.commits[self.opened :]
 
     def states(self) -> Iterator[State]:

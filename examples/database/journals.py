@@ -17,6 +17,10 @@ class Written:
     end: int
     database: List[int]
 
+    def pages(self, page_bytes: int) -> range:
+        """The pages of the journal or log that bytes stand in."""
+        return range(self.start // page_bytes, -(-self.end // page_bytes))
+
     def bytes(self, page_bytes: int) -> int:
         return self.end - self.start + len(self.database) * page_bytes
 
@@ -42,7 +46,7 @@ def journal_lengths(folder: str, bank: Bank, page_bytes: int) -> List[int]:
     return [length for length in lengths if length]
 
 
-def with_journal(commits: Sequence[Commit], lengths: Sequence[int]) -> List[Written]:
+def journal_writes(commits: Sequence[Commit], lengths: Sequence[int]) -> List[Written]:
     """The database file gets the pages that changed, and page 1 with its count of changes.
 
     Left out are the 28 bytes by which a journal is ended, or the change of the folder where it is removed.
@@ -50,7 +54,7 @@ def with_journal(commits: Sequence[Commit], lengths: Sequence[int]) -> List[Writ
     return [Written(0, length, sorted({1, *commit.pages})) for commit, length in zip(commits, lengths)]
 
 
-def with_log(commits: Sequence[Commit], page_bytes: int, checkpoint: int) -> List[Written]:
+def log_writes(commits: Sequence[Commit], page_bytes: int, checkpoint: int) -> List[Written]:
     """A log gets a frame for each page that changed.
 
     After so many frames a checkpoint writes the last frame of each page to the database file, and the log begins anew.

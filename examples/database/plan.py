@@ -10,7 +10,7 @@ from problems import Problem
 from wal_log import Commit
 
 
-def on_device(pages: Dict[int, bytes]) -> Dict[int, bytes]:
+def device_pages(pages: Dict[int, bytes]) -> Dict[int, bytes]:
     """The same pages by their numbers on the device."""
     return {page - 1: contents for page, contents in pages.items()}
 
@@ -79,11 +79,11 @@ def load(database: Dict[int, bytes], device: Device) -> Iterator[Piece]:
     pages: List[int] = sorted(database)
     for start in range(0, len(pages), device.pending):
         part = {page: database[page] for page in pages[start : start + device.pending]}
-        yield Piece(transaction(0, on_device(part)))
+        yield Piece(transaction(0, device_pages(part)))
 
 
 def replay(commits: Sequence[Commit]) -> Iterator[Piece]:
     """The commits, one transaction each, with their numbers from 1 as tags."""
     for number, commit in enumerate(commits, 1):
         if commit.pages:
-            yield Piece(transaction(number, on_device(commit.pages)))
+            yield Piece(transaction(number, device_pages(commit.pages)))

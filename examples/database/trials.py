@@ -7,7 +7,7 @@ from typing import Dict, List, NamedTuple, Optional, Sequence
 from breaks import Break
 from command_files import Piece, transaction
 from history import State
-from plan import on_device
+from plan import device_pages
 from problems import Problem
 from replies import database_of, pages_read, reads
 from wal_log import Commit
@@ -40,8 +40,9 @@ class Trial:
     after: State
     broken: Optional[Break] = None
 
-    def plain(self) -> List[str]:
-        return transaction(self.number, on_device(self.commit.pages))
+    def plain_commands(self) -> List[str]:
+        """The commands of the commit without a break."""
+        return transaction(self.number, device_pages(self.commit.pages))
 
     def pages(self) -> int:
         """How many pages are read to see what is left of the commit."""
@@ -49,30 +50,31 @@ class Trial:
 
     def piece(self) -> Piece:
         """The commands. After a break all pages are read, and the commit is given again, which is right in any case."""
+        plain = self.plain_commands()
         if self.broken is None:
-            return Piece(self.plain())
+            return Piece(plain)
         tries = [f"{verb} {self.number}" for verb in self.broken.tries]
         # Where a read fails, the second time it does not.
         looks = list(reads(self.pages())) * (1 + len(self.broken.places("badread")))
         steps = [f"step {self.number}"] * self.broken.steps
-        return Piece([self.plain()[0], *steps, *self.broken.arms, *tries, *DISARM, *looks, *self.plain()])
+        return Piece([plain[0], *steps, *self.broken.arms, *tries, *DISARM, *looks, *plain])
 
     def expect(self, said: Sequence[str], wanted: Sequence[str]) -> None:
         if list(said) != list(wanted):
             raise Difference(f"commit {self.number} was answered {', '.join(said)}, and not {', '.join(wanted)}")
 
-    def opened(self, steps: int = 0) -> List[str]:
+    def opening_replies(self, steps: int = 0) -> List[str]:
         """The replies of the write and of so many steps."""
         number, changed = self.number, len(self.commit.pages)
         return [f"open {number} {changed}", *(f"wrote {number} {step} {changed}" for step in range(1, steps + 1))]
 
     def check_plain(self, said: Sequence[str]) -> None:
         """Whether the commit was served without a break."""
-        self.expect(said, [*self.opened(), f"done {self.number}"])
+        self.expect(said, [*self.opening_replies(), f"done {self.number}"])
 
     def check_broken(self, broken: Break, said: Sequence[str]) -> Finding:
         """What is left of the commit, where all replies are right."""
-        begun = [*self.opened(broken.steps), *["armed"] * len(broken.arms)]
+        begun = [*self.opening_replies(broken.steps), *["armed"] * len(broken.arms)]
         tried = len(begun) + len(broken.tries)
         looked = tried + len(DISARM)
         tries = said[len(begun) : tried]

@@ -19,7 +19,7 @@ from command_files import Piece, files_of, text_of
 from database_file import read_pages
 from device import largest_device, load_device
 from problems import Problem
-from wal_log import Log, checkpointed, read_log
+from wal_log import Log, checkpointed_frames, read_log
 
 
 def arguments() -> argparse.Namespace:
@@ -48,7 +48,7 @@ def load_database(database: str, log: Log) -> Dict[int, bytes]:
     """The pages of the database file, which has to be as it was when the log began."""
     try:
         with open(f"{database}-shm", "rb") as file:
-            frames = checkpointed(file.read(), log.salts)
+            frames = checkpointed_frames(file.read(), log.salts)
     except FileNotFoundError:
         frames = 0
     if frames:

@@ -116,7 +116,7 @@ def read_log(data: bytes) -> Log:
     return Log(header.page_bytes, header.salts, commits, counted, len(data) - used)
 
 
-def checkpointed(index: bytes, salts: bytes) -> int:
+def checkpointed_frames(index: bytes, salts: bytes) -> int:
     """How many frames of the log with these salts the file NAME-shm says to stand in the database file already."""
     if len(index) < 100 or index[32:40] != salts:
         return 0

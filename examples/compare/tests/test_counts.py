@@ -6,13 +6,13 @@ from typing import List
 
 sys.path.insert(0, os.path.join(os.path.dirname(os.path.abspath(__file__)), ".."))
 
-from counts import Count, Counter, marked, points  # noqa: E402
-from images import BLANK, COMPLETE, DAMAGED, RECORD, Record, Slot, erased, read_slots  # noqa: E402
+from counts import Count, Counter, marked_parts, points  # noqa: E402
+from images import BLANK, COMPLETE, DAMAGED, RECORD, Record, Slot, erased_blocks, read_slots  # noqa: E402
 from pictures import Axis, Chart, Series, svg  # noqa: E402
 from serving import runs_of  # noqa: E402
 from shape import Problem, Shape, shape_of  # noqa: E402
 from sheets import Table, text_lines  # noqa: E402
-from watching import Look, Watched, current_versions, in_steps, step_seen  # noqa: E402
+from watching import Look, Watched, count_step, current_versions, in_steps  # noqa: E402
 from work import Work, fill, transactions  # noqa: E402
 
 STATS = "stats written 1 open 0 pending 0 programs {} erases {} garbage 0"
@@ -60,8 +60,8 @@ class Counts(unittest.TestCase):
         self.assertEqual(flash.runs[0].count("stats"), 4)
 
     def test_marks_stand_behind_the_last_part_too(self) -> None:
-        self.assertEqual(list(marked([["a"], ["b"], ["c"]], 2)), [["a"], ["b", "stats"], ["c"], ["stats"]])
-        self.assertEqual(list(marked([["a"], ["b"]], 2)), [["a"], ["b", "stats"]])
+        self.assertEqual(list(marked_parts([["a"], ["b"], ["c"]], 2)), [["a"], ["b", "stats"], ["c"], ["stats"]])
+        self.assertEqual(list(marked_parts([["a"], ["b"]], 2)), [["a"], ["b", "stats"]])
 
     def test_a_run_keeps_the_limits_of_a_file(self) -> None:
         runs = list(runs_of([["write 1 " + " ".join(["0=1"] * 200000), "finish 1"]] * 2 + [["stats"] * 65000] * 2))
@@ -93,7 +93,8 @@ class Drawn(unittest.TestCase):
         self.assertGreater(most(self.lines(zipf=1.2)), 4 * most(self.lines()))
 
     def test_the_filling_writes_each_page_once(self) -> None:
-        pages = [word.split("=")[0] for part in fill(self.shape) for word in part[0].split() if "=" in word]
+        parts = fill(self.shape.logical, self.shape.pending)
+        pages = [word.split("=")[0] for part in parts for word in part[0].split() if "=" in word]
         self.assertEqual(pages, [str(page) for page in range(self.shape.logical)])
 
     def test_what_no_device_takes_is_refused(self) -> None:
@@ -117,8 +118,8 @@ class Images(unittest.TestCase):
     def test_erased_blocks(self) -> None:
         old = [cell(COMPLETE), cell(COMPLETE), cell(COMPLETE), cell(BLANK), cell(BLANK), cell(BLANK)]
         new = [cell(BLANK), cell(BLANK), cell(COMPLETE), cell(COMPLETE), cell(COMPLETE), cell(BLANK)]
-        self.assertEqual(erased(old, new, SMALL), [0])
-        self.assertEqual(erased(old, [*old[:2], cell(COMPLETE, Record(0, 2, 0, 2)), *old[3:]], SMALL), [1])
+        self.assertEqual(erased_blocks(old, new, SMALL), [0])
+        self.assertEqual(erased_blocks(old, [*old[:2], cell(COMPLETE, Record(0, 2, 0, 2)), *old[3:]], SMALL), [1])
 
     def test_mentions(self) -> None:
         record = Record(4, 2, 5, 3)
@@ -129,9 +130,10 @@ class Images(unittest.TestCase):
         left, written = Record(0, 2, 1, 2), Record(0, 3, 0, 3)
         before = Look([Slot(COMPLETE, left), cell(BLANK)], {0: 1}, 1, 0)
         watched = Watched()
-        step_seen(before, Look([cell(BLANK), Slot(COMPLETE, written)], {0: 3}, 2, 1), "step 1", set(), watched)
+        count_step(before, Look([cell(BLANK), Slot(COMPLETE, written)], {0: 3}, 2, 1), "step 1", set(), watched)
         self.assertEqual((watched.cleared, watched.stayed, watched.clearing, watched.blocked), (1, 0, 1, 1))
-        step_seen(before, Look([Slot(COMPLETE, left), Slot(COMPLETE, written)], {0: 3}, 2, 1), "step 1", set(), watched)
+        after = Look([Slot(COMPLETE, left), Slot(COMPLETE, written)], {0: 3}, 2, 1)
+        count_step(before, after, "step 1", set(), watched)
         self.assertEqual((watched.cleared, watched.stayed), (1, 1))
 
     def test_reports(self) -> None:

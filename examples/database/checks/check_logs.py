@@ -12,7 +12,7 @@ from database_file import read_pages
 from handmade import BIG, LITTLE, PAGE, SALTS, first_page, log_header, log_of, page
 from history import State, contents_of
 from problems import Problem
-from wal_log import FRAME, HEADER, Commit, checkpointed, checksum, read_log
+from wal_log import FRAME, HEADER, Commit, checkpointed_frames, checksum, read_log
 
 TWO = [(1, 0, first_page(2)), (2, 2, page(2)), (2, 2, page(3))]
 ONE = log_of(TWO[:2])
@@ -87,9 +87,9 @@ class Logs(unittest.TestCase):
 
     def test_checkpointed(self) -> None:
         index = bytes(32) + SALTS + bytes(56) + struct.pack("=I", 7) + bytes(20)
-        self.assertEqual(checkpointed(index, SALTS), 7)
-        self.assertEqual(checkpointed(index, b"SALTsalt"), 0)
-        self.assertEqual(checkpointed(b"", SALTS), 0)
+        self.assertEqual(checkpointed_frames(index, SALTS), 7)
+        self.assertEqual(checkpointed_frames(index, b"SALTsalt"), 0)
+        self.assertEqual(checkpointed_frames(b"", SALTS), 0)
 
 
 class LogsOfSqlite(unittest.TestCase):

@@ -9,7 +9,7 @@ from command_files import Limits, Piece, entry, files_of, transaction
 from database_file import page_count, page_size, read_pages
 from device import Device, largest_device, read_device
 from handmade import PAGE, first_page, page
-from plan import check, load, on_device
+from plan import check, device_pages, load
 from problems import Problem
 from replies import database_of, pages_read
 from tables import bars, table
@@ -19,19 +19,20 @@ SMALL = Device(PAGE, 4, 2)
 
 
 class Plans(unittest.TestCase):
-    def refused(self, words: str, commit: Commit, device: Device = SMALL, page_bytes: int = PAGE) -> None:
+    def assert_refused(self, words: str, commit: Commit, device: Device = SMALL, page_bytes: int = PAGE) -> None:
         with self.assertRaisesRegex(Problem, words):
             check({}, [commit], page_bytes, device)
 
     def test_what_a_device_cannot_take(self) -> None:
         three = {number: page(1) for number in (2, 3, 4)}
         many = {number: page(1) for number in range(2, 259)}
-        self.refused("commit 1 changes 3 pages.*at most 2: format an image with PENDING 3", Commit(three, 4))
-        self.refused("commit 1 changes 257 pages.*at most 256: divide", Commit(many, 300), Device(PAGE, 300, 256))
-        self.refused("after commit 1 has 5 pages, and the device 4", Commit({1: first_page(5)}, 5))
-        self.refused("8192 bytes.*at most 4096", Commit({1: b""}, 1), largest_device(8192), 8192)
-        self.refused("1024 bytes, and the device of 512", Commit({1: b""}, 1), page_bytes=1024)
-        self.refused("page 1 says 3", Commit({1: first_page(3)}, 2))
+        self.assert_refused("commit 1 changes 3 pages.*at most 2: format an image with PENDING 3", Commit(three, 4))
+        large = Device(PAGE, 300, 256)
+        self.assert_refused("commit 1 changes 257 pages.*at most 256: divide", Commit(many, 300), large)
+        self.assert_refused("after commit 1 has 5 pages, and the device 4", Commit({1: first_page(5)}, 5))
+        self.assert_refused("8192 bytes.*at most 4096", Commit({1: b""}, 1), largest_device(8192), 8192)
+        self.assert_refused("1024 bytes, and the device of 512", Commit({1: b""}, 1), page_bytes=1024)
+        self.assert_refused("page 1 says 3", Commit({1: first_page(3)}, 2))
         with self.assertRaisesRegex(Problem, "database file has 5 pages"):
             check({number: page(1) for number in range(1, 6)}, [], PAGE, SMALL)
 
@@ -42,7 +43,7 @@ class Plans(unittest.TestCase):
         check({}, commits[1:], PAGE, SMALL)
 
     def test_page_1_is_page_0(self) -> None:
-        self.assertEqual(on_device({1: page(1), 7: page(7)}), {0: page(1), 6: page(7)})
+        self.assertEqual(device_pages({1: page(1), 7: page(7)}), {0: page(1), 6: page(7)})
         pieces = load({1: page(1), 2: bytes(PAGE), 3: page(3)}, SMALL)
         lines = [f"write 0 0={'01' * PAGE} 1=-", "finish 0", f"write 0 2={'03' * PAGE}", "finish 0"]
         self.assertEqual([line for piece in pieces for line in piece.lines], lines)
