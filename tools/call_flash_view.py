@@ -37,7 +37,7 @@ CELLS = ((r"(?<= )current\b", "32"), (r"(?<= )loose\b", "33"), (r"(?<= )stale\b"
 STARTS = ((r"^spare", "34"), (r"^unsound", "1;31"))
 
 # A row of letters, and the escapes for these.
-ROW = re.compile(r"((?:block|spare) [0-9 ]{5}| {11})([.!xclsCLS]+)\n")
+ROW = re.compile(r"((?:block|spare) [0-9 ]{5}| {11})([.!xclsCLS]+)\n?")
 LETTERS = {"c": "32", "l": "33", "s": "2", "x": "31", "!": "1;31"}
 
 
@@ -83,7 +83,7 @@ def asked_for(words: Sequence[str]) -> Asked:
     return Asked(options, names, color, wrong, sum(forms[:1], []))
 
 
-def painted(text: str) -> str:
+def painted_text(text: str) -> str:
     """A picture as text with colours."""
     def paint_letters(found: "re.Match[str]") -> str:
         return f"\x1b[{LETTERS[found[0][0].lower()]}m{found[0]}\x1b[0m"
@@ -91,21 +91,21 @@ def painted(text: str) -> str:
     def paint(line: str) -> str:
         row = ROW.fullmatch(line)
         if row:
-            line = row[1] + re.sub(r"[cC]+|[lL]+|[sS]+|x+|!", paint_letters, row[2]) + "\n"
+            line = row[1] + re.sub(r"[cC]+|[lL]+|[sS]+|x+|!", paint_letters, row[2]) + line[row.end(2):]
         for pattern, code in (CELLS if "|" in line else ()) + STARTS:
             line = re.sub(pattern, lambda it, code=code: f"\x1b[{code}m{it[0]}\x1b[0m", line)
         return line
     return "".join(map(paint, text.splitlines(keepends=True)))
 
 
-def on_terminal() -> bool:
+def is_on_terminal() -> bool:
     """Whether colours are wanted where nothing is said."""
     return sys.stdout is not None and sys.stdout.isatty() and not os.environ.get("NO_COLOR")
 
 
 def draw(asked: Asked, words: Sequence[str]) -> int:
     """Runs the program, and answers its status."""
-    colored = "--svg" not in asked.form and (asked.color == "always" or asked.color == "auto" and on_terminal())
+    colored = "--svg" not in asked.form and (asked.color == "always" or asked.color == "auto" and is_on_terminal())
     if "--unproved" in asked.options and proved_program("flash_view") is None:
         with copies.new_room() as room:
             held = copies.Copies(room)
@@ -117,7 +117,7 @@ def draw(asked: Asked, words: Sequence[str]) -> int:
         status, said = done.returncode, done.stdout
     else:
         return start(built_program("flash_view"), words)
-    copies.say(painted(said.decode("latin-1")).encode("latin-1") if colored and status == 0 else said)
+    copies.say(painted_text(said.decode("latin-1")).encode("latin-1") if colored and status == 0 else said)
     return status
 
 

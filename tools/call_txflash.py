@@ -45,7 +45,7 @@ def table() -> str:
     return TABLE.format(rows="\n".join(rows))
 
 
-def no_image(name: str) -> bool:
+def is_no_image(name: str) -> bool:
     """Whether a name is that of a plain file with bytes that is no image."""
     try:
         if not os.path.isfile(name) or os.path.getsize(name) == 0:
@@ -77,7 +77,7 @@ def tell_bad_line(words: Sequence[str]) -> None:
     except OSError:
         return
     if found:
-        tell("txflash", f"line {found.number} of {name} is {mistakes.shown(found.line)}")
+        tell("txflash", f"line {found.number} of {name} is {mistakes.shown_text(found.line)}")
         tell("txflash", found.why)
 
 
@@ -116,7 +116,7 @@ def refusal(words: Sequence[str], options: Sequence[str]) -> Optional[str]:
     if "--keep" in options and "--unproved" not in options:
         return "--keep is for --unproved: without that a call keeps its image"
     writes = words[0] == "format" and ("--unproved" not in options or "--keep" in options)
-    if writes and "--replace" not in options and no_image(words[1]):
+    if writes and "--replace" not in options and is_no_image(words[1]):
         return f"{words[1]} is there and is no image. To replace it: ./txflash --replace format .."
     return None
 

@@ -184,7 +184,7 @@ def links(tree: Tree, document: str, text: str) -> Iterator[Miss]:
                 yield Miss(number, f"no heading {anchor} in {path}")
 
 
-def quoted(tree: Tree, document: str, text: str) -> Iterator[Miss]:
+def quoted_headings(tree: Tree, document: str, text: str) -> Iterator[Miss]:
     """The headings in quotation marks that are none of the document that stands before them, or of this one."""
     kept = prose(text)
     for found in (it for pattern in QUOTED for it in re.finditer(pattern + r"'([A-Z][^']*)'", kept)):
@@ -209,7 +209,7 @@ def options_of(tree: Tree, script: str) -> str:
     return "\n".join(read(tree.top, it) for it in tree.files if os.path.dirname(it) == folder and it.endswith(".py"))
 
 
-def called(tree: Tree, document: str, text: str) -> Iterator[Miss]:
+def called_commands(tree: Tree, document: str, text: str) -> Iterator[Miss]:
     """The commands that cannot be given: without their script, or with a word or an option that it does not know. A
     script is named from the top, or from the folder of the document."""
     for number, command in commands(text):
@@ -278,7 +278,7 @@ def code_names(tree: Tree, document: str, text: str) -> Iterator[Miss]:
             yield Miss(number, f"no name {name}")
 
 
-def crate_names(tree: Tree, document: str, text: str) -> Iterator[Miss]:
+def crate_names(tree: Tree, _: str, text: str) -> Iterator[Miss]:
     """The words with an underscore, outside of code type, that are no crate."""
     kept = re.sub(r"\]\([^)]*\)", "]", SPAN.sub(lambda it: re.sub(r"[^\n]", " ", it.group(0)), prose(text)))
     for number, line in enumerate(kept.split("\n"), 1):
@@ -287,7 +287,7 @@ def crate_names(tree: Tree, document: str, text: str) -> Iterator[Miss]:
                 yield Miss(number, f"no crate {word}")
 
 
-def owned(tree: Tree, document: str, text: str) -> Iterator[Miss]:
+def owned_names(tree: Tree, _: str, text: str) -> Iterator[Miss]:
     """What is said to be of a function, a type or a crate, and stands in no crate that has it nor in one below."""
     kept = prose(text)
     for found in re.finditer(r"((?:`\w+`(?:,| and|, and)?\s+)+)of\s+`?(\w+(?:::\w+)*)`?", kept):
@@ -301,7 +301,7 @@ def owned(tree: Tree, document: str, text: str) -> Iterator[Miss]:
                 yield Miss(kept.count("\n", 0, found.start()) + 1, f"no {name} of {found.group(2)}")
 
 
-def rattle(tree: Tree, _: str, text: str) -> Iterator[Miss]:
+def rattle_lines(tree: Tree, _: str, text: str) -> Iterator[Miss]:
     """The lines of blocks of Rattle that no source has. They may have a comment behind them."""
     shown = False
     for number, line in enumerate(text.split("\n"), 1):
@@ -329,7 +329,7 @@ def misses(tree: Tree, document: str) -> List[Miss]:
     text = read(tree.top, document)
     found = [*links(tree, document, text), *layout(text)]
     if document != "CHANGELOG.md":
-        for look in (paths, quoted, called, code_names, crate_names, owned, rattle):
+        for look in (paths, quoted_headings, called_commands, code_names, crate_names, owned_names, rattle_lines):
             found += look(tree, document, text)
     return sorted(set(found))
 

@@ -9,6 +9,7 @@ of the examples may stand beside its commands (`sides`)."""
 import os
 import re
 import sys
+from typing import Dict, Iterator, List, Optional, Set, Tuple
 
 TOP = os.path.dirname(os.path.dirname(os.path.abspath(__file__)))
 CASES = "crates/cases/data/cases.txt"
@@ -16,21 +17,28 @@ MANUAL = "docs/manual.md"
 SCRIPTS = "examples/scripts"
 SESSION = "crates/flash_serve"
 
+Lines = List[str]
+# A call by its kind and its words, and what it says in each place where the cases have it.
+Call = Tuple[str, str]
+Calls = Dict[Call, List[Lines]]
 
-def read_lines(name):
+
+def read_lines(name: str) -> Lines:
     """The lines of a file of the repository."""
     with open(f"{TOP}/{name}", encoding="utf-8") as file:
         return file.read().splitlines()
 
 
-def whole(text):
+def whole_line(text: str) -> str:
     """What a line of a case says: `..` at its end stands for thirty zeros."""
     return text[:-2] + "0" * 30 if text.endswith("..") else text
 
 
-def read_cases():
+def read_cases() -> Tuple[Dict[str, List[Lines]], Calls]:
     """The files of the cases, each with the texts that it has there, and the calls, each with the texts it says."""
-    files, calls, told = {}, {}, None
+    files: Dict[str, List[Lines]] = {}
+    calls: Calls = {}
+    told: Lines = []
     for line in read_lines(CASES):
         kind, _, rest = line.partition(" ")
         if kind == "file":
@@ -41,11 +49,11 @@ def read_cases():
             words = rest.partition(" ")[2]
             calls.setdefault((kind, words), []).append(told)
         elif kind == ">" or kind.startswith("<"):
-            told.append(rest if kind == ">" else whole(rest))
+            told.append(rest if kind == ">" else whole_line(rest))
     return files, calls
 
 
-def compare_examples(files):
+def compare_examples(files: Dict[str, List[Lines]]) -> Iterator[str]:
     """A line for each file of the examples that is not in the cases as it is."""
     for name in sorted(os.listdir(f"{TOP}/{SCRIPTS}")):
         in_cases = f"examples/{name}"
@@ -55,9 +63,10 @@ def compare_examples(files):
             yield f"{SCRIPTS}/{name}: a case has another text"
 
 
-def blocks(lines):
+def blocks(lines: Lines) -> Iterator[Tuple[int, str, Lines]]:
     """The indented blocks of a document: the number of the first line, the text since the block before, the block."""
-    before, block = [], []
+    before: Lines = []
+    block: Lines = []
     for number, line in enumerate([*lines, "end"]):
         if line.startswith("    "):
             block.append(line[4:])
@@ -68,7 +77,7 @@ def blocks(lines):
             before.append(line)
 
 
-def asked_in(text):
+def asked_in(text: str) -> Optional[Call]:
     """The last call that a text or a command asks for, if there is one."""
     found = re.findall(r"\./(txflash|flash_view|flash_serve) ([^`<>\n]+)", text)
     if found:
@@ -78,19 +87,19 @@ def asked_in(text):
     return ("call", f"try {found[-1]}") if found else None
 
 
-def in_cases(asked):
+def in_cases(asked: Optional[Call]) -> Optional[Call]:
     """A call as the cases make it."""
     return asked and (asked[0], asked[1].replace(f"{SCRIPTS}/", "examples/"))
 
 
-def is_command(line):
+def is_command(line: str) -> bool:
     """Whether a line of the manual is one for a shell."""
     return re.match(r"\./|cp |printf |python3 ", line) is not None
 
 
-def turns(block):
+def turns(block: Lines) -> List[Tuple[str, Lines]]:
     """The commands of a block for a shell, each with the lines behind it, which it prints."""
-    found = []
+    found: List[Tuple[str, Lines]] = []
     for line in block:
         if is_command(line):
             found.append((line, []))
@@ -99,10 +108,11 @@ def turns(block):
     return found
 
 
-def sides(block):
+def sides(block: Lines) -> Tuple[Lines, Lines]:
     """The lines of a file of the examples, and the replies beside them. A reply stands two blanks or more behind its
     command. A reply of several lines goes on in lines that begin with two blanks."""
-    lines, replies = [], []
+    lines: Lines = []
+    replies: Lines = []
     for line in block:
         command, _, reply = (line, "", "") if line.startswith("#") else line.partition("  ")
         lines += [command] if command else []
@@ -110,12 +120,12 @@ def sides(block):
     return lines, replies
 
 
-def is_beside(block):
+def is_beside(block: Lines) -> bool:
     """Whether a block is a file of the examples with replies beside its commands."""
     return block[0].startswith("#") and sides(block)[1] != []
 
 
-def differs_in_answer(answer, asked, calls):
+def differs_in_answer(answer: Lines, asked: Optional[Call], calls: Calls) -> Optional[str]:
     """What is not so of an answer to a call, if anything. No case has a live device."""
     if asked and asked[0] == "live":
         return None
@@ -125,14 +135,14 @@ def differs_in_answer(answer, asked, calls):
     return None if answer in calls[asked] else f"no case says this after {' '.join(asked)}"
 
 
-def differs_in_session(block):
+def differs_in_session(block: Lines) -> Optional[str]:
     """What is not so of a session with a live device, if anything: the crate of the program has one that begins so."""
     lines, replies = sides(block)
     wanted = read_lines(f"{SESSION}/stdin")[1:len(lines)], read_lines(f"{SESSION}/stdout")[1:len(replies) + 1]
     return None if wanted == (lines[1:], replies) else f"the session of {SESSION} begins otherwise"
 
 
-def differs_beside(block, asked, calls):
+def differs_beside(block: Lines, asked: Optional[Call], calls: Calls) -> Optional[str]:
     """What is not so of a file of the examples with replies beside its commands, if anything."""
     if asked and asked[0] == "live":
         return differs_in_session(block)
@@ -143,7 +153,8 @@ def differs_beside(block, asked, calls):
     return f"this is not {name}" if read_lines(name) != lines else differs_in_answer(replies, asked, calls)
 
 
-def differs(block, before, asked, is_answer, calls, said):
+def differs(block: Lines, before: str, asked: Optional[Call], is_answer: bool, calls: Calls,
+            said: Set[str]) -> Optional[str]:
     """What is not so of a block, if anything: that it is a file of the examples, or an answer."""
     if is_beside(block):
         return differs_beside(block, asked, calls)
@@ -158,7 +169,7 @@ def differs(block, before, asked, is_answer, calls, said):
     return f"no case says {missing[0]}" if missing else None
 
 
-def compare_manual(calls):
+def compare_manual(calls: Calls) -> Iterator[str]:
     """A line for each answer and file of the manual that the cases do not have."""
     said = {line for texts in calls.values() for text in texts for line in text}
     asked, command = None, ""
@@ -183,7 +194,7 @@ def compare_manual(calls):
         command = ""
 
 
-def main():
+def main() -> int:
     files, calls = read_cases()
     found = [*compare_examples(files), *compare_manual(calls)]
     for line in found:

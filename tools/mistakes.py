@@ -46,7 +46,7 @@ class Mistake(NamedTuple):
     why: str
 
 
-def shown(text: str, most: int = 60) -> str:
+def shown_text(text: str, most: int = 60) -> str:
     """A text in one line, without what a terminal would not show."""
     plain = "".join(it if " " <= it <= "~" else f"\\x{ord(it):02x}" for it in text[:most + 1])
     return f"`{plain if len(plain) <= most else plain[:most] + ' ..'}`"
@@ -64,14 +64,14 @@ def why_number(word: str, most: int = MOST_NUMBER, digits: int = 10) -> Optional
     if not word:
         return "a number is missing"
     if word[0] in "+-":
-        return f"{shown(word)}: a number has no sign"
+        return f"{shown_text(word)}: a number has no sign"
     if word[:2].lower() == "0x":
-        return f"{shown(word)}: numbers are decimal, without 0x"
+        return f"{shown_text(word)}: numbers are decimal, without 0x"
     if not DIGITS.issuperset(word):
-        return f"{shown(word)} is no number: a number has decimal digits alone"
+        return f"{shown_text(word)} is no number: a number has decimal digits alone"
     if len(word) > digits:
-        return f"{shown(word)}: a number has at most {digits} digits"
-    return f"{shown(word)}: the number is at most {most}" if int(word) > most else None
+        return f"{shown_text(word)}: a number has at most {digits} digits"
+    return f"{shown_text(word)}: the number is at most {most}" if int(word) > most else None
 
 
 def why_count(word: str) -> Optional[str]:
@@ -82,19 +82,19 @@ def why_count(word: str) -> Optional[str]:
 
 def why_outcome(word: str) -> Optional[str]:
     """Why a word is no outcome, if it is none."""
-    return None if word in OUTCOMES else f"{shown(word)}: the outcome is none, all or bad"
+    return None if word in OUTCOMES else f"{shown_text(word)}: the outcome is none, all or bad"
 
 
 def why_hex(word: str, most: int) -> Optional[str]:
     """Why a word is not the digits of one byte up to so many, if it is not."""
     if word[:2].lower() == "0x":
-        return f"{shown(word)}: hexadecimal digits stand without 0x"
+        return f"{shown_text(word)}: hexadecimal digits stand without 0x"
     if not HEX.issuperset(word):
-        return f"{shown(word)} has other characters than hexadecimal digits"
+        return f"{shown_text(word)} has other characters than hexadecimal digits"
     if len(word) % 2:
-        return f"{shown(word)}: a byte has two digits, and {len(word)} digits are an odd number"
+        return f"{shown_text(word)}: a byte has two digits, and {len(word)} digits are an odd number"
     if not 2 <= len(word) <= 2 * most:
-        return f"{shown(word)}: {len(word) // 2} bytes, where there are from 1 to {most}"
+        return f"{shown_text(word)}: {len(word) // 2} bytes, where there are from 1 to {most}"
     return None
 
 
@@ -102,7 +102,7 @@ def why_pair(word: str, wanted: str) -> Optional[str]:
     """Why a word is not two parts with an equals sign between them, if it is not."""
     if word.count("=") == 1:
         return None
-    return f"{shown(word)} has {'no' if '=' not in word else 'more than one'} equals sign: it should be {wanted}"
+    return f"{shown_text(word)} has {'no' if '=' not in word else 'more than one'} equals sign: it should be {wanted}"
 
 
 def why_entry(word: str, page_bytes: int) -> Optional[str]:
@@ -164,7 +164,7 @@ def why_verb(verb: str, forms: Dict[str, str]) -> str:
         return f"{verb} is a command of ./txflash run and try; a key script has put, get and cut"
     if verb in KEY_COMMANDS:
         return f"{verb} is a command of key scripts, which ./txflash keys serves"
-    return f"there is no command {shown(verb)}"
+    return f"there is no command {shown_text(verb)}"
 
 
 def why_signs(words: Sequence[str]) -> Optional[str]:
@@ -173,9 +173,9 @@ def why_signs(words: Sequence[str]) -> Optional[str]:
         if word.startswith("#"):
             return "a comment behind a command: it needs a line of its own"
         if "," in word or ";" in word:
-            return f"{shown(word)}: words are divided by blanks, not by , or ;"
+            return f"{shown_text(word)}: words are divided by blanks, not by , or ;"
         if word.startswith("=") or word.endswith("="):
-            return f"{shown(word)}: there are no blanks at the equals sign, and a part on each side of it"
+            return f"{shown_text(word)}: there are no blanks at the equals sign, and a part on each side of it"
     return None
 
 
@@ -236,7 +236,7 @@ def why_call_word(kind: str, word: str) -> Optional[str]:
     if kind in NAMES:
         return None if word else f"{kind} is an empty name"
     if kind == "PROTOCOL":
-        return None if word in PROTOCOLS else f"{shown(word)}: PROTOCOL is scc or bpcc"
+        return None if word in PROTOCOLS else f"{shown_text(word)}: PROTOCOL is scc or bpcc"
     why = why_number(word, *GREATEST.get(kind, (MOST_NUMBER, 10)))
     return f"{kind}: {why}" if why else None
 
@@ -250,7 +250,7 @@ def why_words(words: Sequence[str]) -> Optional[str]:
     verb, rest = words[0], words[1:]
     if verb not in FORMS:
         known = verb.strip().lower()
-        return f"words are in lower case: {known}" if known in FORMS else f"there is no word {shown(verb)}"
+        return f"words are in lower case: {known}" if known in FORMS else f"there is no word {shown_text(verb)}"
     kinds = FORMS[verb].split()
     if kinds[-1].startswith("["):
         kinds = kinds[:-1] + [kinds[-1].strip("[]")] * (len(rest) >= len(kinds))

@@ -10,11 +10,12 @@ import collections
 import os
 import re
 import sys
+from typing import Counter, List, Tuple
 
 PARTS = ("Lts", "Kinds", "Tie", "Proof", "Answers", "Invariants", "Code", "Statement", "Met", "Key", "Goals", "Borrow")
 
 
-def saved_modules(folder):
+def saved_modules(folder: str) -> List[Tuple[float, str]]:
     """The time at which each module was saved, and its name, in the order of time."""
     found = []
     for at, _, files in os.walk(folder):
@@ -24,7 +25,7 @@ def saved_modules(folder):
     return sorted(found)
 
 
-def parts_of(module):
+def parts_of(module: str) -> Tuple[str, str]:
     """The function or lemma file of a module, and which part of it the module is."""
     names = module.removesuffix(".decls").split(".")
     if names[-1] in PARTS:
@@ -32,14 +33,14 @@ def parts_of(module):
     return ".".join(names), "lemmas" if re.search(r"[-.](proofs|specs)\b", module) else "other"
 
 
-def print_sums(title, sums, count):
+def print_sums(title: str, sums: Counter[str], count: int) -> None:
     """Prints the greatest sums."""
     print(f"-- {title}")
     for name, seconds in sums.most_common(count):
         print(f"{seconds:8.2f} {name}")
 
 
-def main():
+def main() -> int:
     if len(sys.argv) < 2:
         print(__doc__.splitlines()[0], file=sys.stderr)
         return 1
@@ -48,7 +49,9 @@ def main():
     if not saved:
         print(f"no checked module in {sys.argv[1]}", file=sys.stderr)
         return 1
-    modules, owners, kinds = collections.Counter(), collections.Counter(), collections.Counter()
+    modules: Counter[str] = collections.Counter()
+    owners: Counter[str] = collections.Counter()
+    kinds: Counter[str] = collections.Counter()
     for (before, _), (now, module) in zip(saved, saved[1:]):
         owner, kind = parts_of(module)
         modules[module] += now - before

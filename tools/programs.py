@@ -8,7 +8,7 @@ from typing import List, NoReturn, Optional, Sequence
 import prove
 from notes import tell
 
-TOP = os.path.dirname(os.path.dirname(os.path.abspath(__file__)))
+TOP = prove.TOP
 MANUAL = f"{TOP}/docs/manual.md"
 # The status where no program was started.
 NOT_STARTED = 125

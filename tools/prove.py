@@ -74,7 +74,7 @@ def copy_crates(names: Set[str], to: str) -> None:
         copy.writelines(line for line in file if {*line.partition(":")[0].split()[:1]} <= names)
 
 
-def keeps() -> bool:
+def can_keep() -> bool:
     """Whether rt ci can keep what it proves: in a folder beside the toolchain, for the owner of that folder alone."""
     beside = os.path.dirname(os.path.dirname(os.path.dirname(os.path.realpath(shutil.which("rt") or "/"))))
     try:
@@ -196,7 +196,7 @@ class Proofs:
     def run(self) -> int:
         """Proves and builds. Answers the status."""
         self.tell("proving and building the program first; README.md says how long that takes")
-        if not (self.make() if keeps() else self.prove() and self.build()):
+        if not (self.make() if can_keep() else self.prove() and self.build()):
             self.tell("the program was not built: see above")
             return 125
         # A source that has changed since this began is newer than the stamp, so that the next call builds again.

@@ -1,7 +1,8 @@
 """Which lines and words are refused, and why: the rows of the manual's 'Common mistakes' among them."""
 import unittest
+from typing import Dict, Sequence, Tuple
 
-from mistakes import COMMANDS, KEY_COMMANDS, first_mistake, shown, why_words
+from mistakes import COMMANDS, KEY_COMMANDS, first_mistake, shown_text, why_words
 
 # A file, the number of its first bad line or 0, and words of the reason.
 FILES = (
@@ -54,23 +55,23 @@ CALLS = (
 
 
 class Mistakes(unittest.TestCase):
-    def check(self, rows, forms):
+    def check(self, rows: Sequence[Tuple[bytes, int, str]], forms: Dict[str, str]) -> None:
         for data, number, why in rows:
             with self.subTest(data=data[:40]):
                 found = first_mistake(data, forms, 16)
                 self.assertEqual(found.number if found else 0, number)
                 self.assertIn(why, found.why if found else "")
 
-    def test_files_of_commands(self):
+    def test_files_of_commands(self) -> None:
         self.check(FILES, COMMANDS)
 
-    def test_key_scripts(self):
+    def test_key_scripts(self) -> None:
         self.check(SCRIPTS, KEY_COMMANDS)
 
-    def test_pages_may_be_larger(self):
+    def test_pages_may_be_larger(self) -> None:
         self.assertIsNone(first_mistake(b"write 1 0=" + b"41" * 17, COMMANDS, 32))
 
-    def test_words(self):
+    def test_words(self) -> None:
         for call, why in CALLS:
             with self.subTest(call=call):
                 found = why_words(call.split(" "))
@@ -80,9 +81,9 @@ class Mistakes(unittest.TestCase):
         self.assertIn("UTF-8", why_words(["try", "\udcff"]))
         self.assertIsNotNone(why_words([]))
 
-    def test_lines_are_shown_short_and_plain(self):
-        self.assertEqual(shown("a\tb\x7f"), "`a\\x09b\\x7f`")
-        self.assertEqual(shown("x" * 70), "`" + "x" * 60 + " ..`")
+    def test_lines_are_shown_short_and_plain(self) -> None:
+        self.assertEqual(shown_text("a\tb\x7f"), "`a\\x09b\\x7f`")
+        self.assertEqual(shown_text("x" * 70), "`" + "x" * 60 + " ..`")
 
 
 if __name__ == "__main__":

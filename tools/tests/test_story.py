@@ -3,10 +3,11 @@ import os
 import re
 import subprocess
 import sys
-import tempfile
 import unittest
+from typing import Tuple
 
 from programs import TOP
+from rooms import Room
 
 sys.path.insert(0, f"{TOP}/examples")
 
@@ -32,29 +33,21 @@ if [ "$1" = --svg ]; then echo "<svg><g><title>slot 0: $(wc -c <"$2")</title></g
 COMMANDS = b"# One page.\nwrite 1 0=41\n\nfinish 1\r\n  # Read & see.\n\tread 0"
 
 
-class Pages(unittest.TestCase):
-    def setUp(self):
-        room = tempfile.TemporaryDirectory()
-        self.addCleanup(room.cleanup)
-        self.room = room.name
-        self.put("txflash", TXFLASH.encode())
-        self.put("flash_view", FLASH_VIEW.encode())
+class Pages(Room):
+    def setUp(self) -> None:
+        super().setUp()
+        self.put("txflash", TXFLASH.encode(), 0o755)
+        self.put("flash_view", FLASH_VIEW.encode(), 0o755)
         self.put("c.txt", COMMANDS)
-        for name in ("txflash", "flash_view"):
-            os.chmod(f"{self.room}/{name}", 0o755)
 
-    def put(self, name, data):
-        with open(f"{self.room}/{name}", "wb") as file:
-            file.write(data)
-
-    def call(self, *words):
+    def call(self, *words: str) -> Tuple[int, str, str]:
         """The status, the page and what was told beside it."""
         names = {"TXFLASH_PROGRAM": f"{self.room}/txflash", "FLASH_VIEW_PROGRAM": f"{self.room}/flash_view"}
         done = subprocess.run([sys.executable, f"{TOP}/examples/story.py", *words], cwd=self.room, check=False,
                               env={**os.environ, **names}, stdin=subprocess.DEVNULL, capture_output=True)
         return done.returncode, done.stdout.decode(), done.stderr.decode()
 
-    def test_each_command_has_its_reply_and_the_picture_that_it_leaves(self):
+    def test_each_command_has_its_reply_and_the_picture_that_it_leaves(self) -> None:
         status, page, told = self.call("c.txt")
         self.assertEqual((status, told), (0, ""))
         turns = re.findall(r"<li data-picture='picture-(\d)'>(.*)</li>", page)
@@ -67,22 +60,22 @@ class Pages(unittest.TestCase):
                          [("0", "8"), ("1", "9")])
         self.assertNotRegex(page, r"@[A-Z]+@|https?:")
 
-    def test_the_image_stays(self):
+    def test_the_image_stays(self) -> None:
         self.put("d.img", b"TXFLASH1 of mine")
         status, page, _ = self.call("--text", "c.txt", "d.img")
         self.assertEqual(status, 0)
-        self.assertIn("<pre>die 0\nblock 0    |<span class='loose'>0.17 loose</span>|<span class='blank'>blank</span>|\n"
+        self.assertIn("<pre>die 0\n"
+                      "block 0    |<span class='loose'>0.17 loose</span>|<span class='blank'>blank</span>|\n"
                       "walk 0.1 -&gt; 1.1 absent</pre>", page)
-        with open(f"{self.room}/d.img", "rb") as file:
-            self.assertEqual(file.read(), b"TXFLASH1 of mine")
+        self.assertEqual(self.get("d.img"), b"TXFLASH1 of mine")
         self.assertEqual(sorted(os.listdir(self.room)), ["c.txt", "d.img", "flash_view", "txflash"])
 
-    def test_only_so_many_commands_are_told(self):
+    def test_only_so_many_commands_are_told(self) -> None:
         status, page, told = self.call("--most", "1", "c.txt")
         self.assertEqual((status, page.count("<li ")), (0, 2))
         self.assertIn("the first 1 of 3 commands", told)
 
-    def test_what_the_program_refuses_is_no_story(self):
+    def test_what_the_program_refuses_is_no_story(self) -> None:
         self.put("bad.txt", b"read 0\nREAD 0\n")
         status, page, told = self.call("bad.txt")
         self.assertEqual((status, page), (4, ""))
@@ -93,12 +86,12 @@ class Pages(unittest.TestCase):
 
 
 class Lines(unittest.TestCase):
-    def test_a_command_ends_where_its_line_does(self):
+    def test_a_command_ends_where_its_line_does(self) -> None:
         found = [(it.notes, it.line, COMMANDS[:it.end][-5:]) for it in story.commands_of(COMMANDS)]
         self.assertEqual(found, [(["One page."], "write 1 0=41", b"0=41\n"), ([], "finish 1", b"h 1\r\n"),
                                  (["Read & see."], "read 0", b"ead 0")])
 
-    def test_letters_of_an_overview_are_cells(self):
+    def test_letters_of_an_overview_are_cells(self) -> None:
         self.assertEqual(story.text_html("spare 3    S.\n"),
                          "<pre>spare 3    <span class='stale held'>S</span><span class='blank'>.</span></pre>")
 
