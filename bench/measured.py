@@ -12,6 +12,7 @@ Python without its site, and what is told is at least the 10 MiB or so of that o
 from __future__ import annotations
 
 import os
+import resource
 import sys
 import time
 

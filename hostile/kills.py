@@ -41,6 +41,18 @@ WAYS = (Way("by its name", SINGLE, SINGLE, False), Way("through a link", LINK, S
         Way("in place", SECOND, IMAGE, True))
 
 
+def make_images(program: Program) -> None:
+    """Makes an image to which a link leads from another folder, and one with two names."""
+    for folder in ("images", "links", "names"):
+        os.mkdir(folder)
+    for image in (IMAGE, SINGLE):
+        ended = program.run(["format", image, *DEVICE])
+        if ended.status:
+            raise SystemExit(f"no image was made: status {ended.status}")
+    os.link(IMAGE, SECOND)
+    os.symlink("../" + SINGLE, LINK)
+
+
 class Kills:
     """The folder in which the program is killed."""
 
@@ -48,14 +60,8 @@ class Kills:
         self.program, self.draw = program, random.Random(seed)
         self.counts: Counter[str] = collections.Counter()
         self.faults: List[str] = []
-        for folder in ("images", "links", "names", "copies"):
-            os.mkdir(folder)
-        for image in (IMAGE, SINGLE):
-            ended = program.run(["format", image, *DEVICE])
-            if ended.status:
-                raise SystemExit(f"kills: no image was made: status {ended.status}")
-        os.link(IMAGE, SECOND)
-        os.symlink("../" + SINGLE, LINK)
+        make_images(program)
+        os.mkdir("copies")
         self.times = {way: self.time(way) for way in WAYS}
 
     def links_stand(self) -> bool:

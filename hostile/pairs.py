@@ -20,11 +20,10 @@ import sys
 import time
 from typing import Counter, Dict, List, NamedTuple, Optional
 
-from kills import DEVICE
+from kills import DEVICE, IMAGE, LINK, SECOND, SINGLE, make_images
 from program import (Ended, Program, exit_code, found_program, new_folder, program_argument, read_file,
                      write_file)
 
-IMAGE, LINK, SINGLE, SECOND = "images/disk.img", "links/disk", "images/single.img", "names/second"
 FREE = "images/free.img"
 DEVICES = (DEVICE, [*DEVICE[:-2], "99", DEVICE[-1]])
 REFUSED_IN_PLACE = {3, 7}
@@ -50,14 +49,7 @@ class Pairs:
         self.program, self.draw = program, random.Random(seed)
         self.counts: Counter[str] = collections.Counter()
         self.faults: List[str] = []
-        for folder in ("images", "links", "names"):
-            os.mkdir(folder)
-        for image in (IMAGE, SINGLE):
-            ended = program.run(["format", image, *DEVICE])
-            if ended.status:
-                raise SystemExit(f"pairs: no image was made: status {ended.status}")
-        os.link(IMAGE, SECOND)
-        os.symlink("../" + SINGLE, LINK)
+        make_images(program)
         self.pages: Dict[str, List[int]] = {image: self.write_both(image) for image in (SINGLE, IMAGE)}
         self.longest = self.program.run(["run", SINGLE, "read.txt"]).seconds
         self.devices = [self.format_alone(device) for device in DEVICES]
