@@ -103,8 +103,7 @@ class Sweeper:
         self.counts[f"image {drawn.kind}"] += 1
         self.counts[outcome(reading)] += 1
         script = image_commands(draw, reading)
-        write_file("old/" + IMAGE, drawn.data)
-        write_file(IMAGE, drawn.data)
+        put_image(drawn.data)
         if script is None:
             remove(COMMANDS)
         else:
@@ -145,8 +144,7 @@ class Sweeper:
         assert reading.image
         drawn = drawn_commands.draw_commands(draw, reading.image.config, number)
         self.counts[f"commands {drawn.kind}"] += 1
-        write_file("old/" + IMAGE, data)
-        write_file(IMAGE, data)
+        put_image(data)
         write_file(COMMANDS, drawn.data)
         try:
             ended = self.run(["run", IMAGE, COMMANDS])
@@ -193,8 +191,7 @@ class Sweeper:
         draw = random.Random(f"{self.job.seed} keys {number}")
         keys = drawn_keys.draw_keys(draw)
         data, script = drawn_keys.draw_image(draw, keys), drawn_keys.draw_script(draw, keys)
-        write_file("old/" + IMAGE, data)
-        write_file(IMAGE, data)
+        put_image(data)
         write_file(COMMANDS, script)
         try:
             ended = self.run(["keys", IMAGE, COMMANDS])
@@ -217,8 +214,7 @@ class Sweeper:
         reading = read(data, IMAGE)
         blocks = reading.image.config.blocks_per_die * reading.image.config.dies if reading.image else 8
         block = draw.choice((*(draw.randrange(blocks) for _ in range(8)), blocks, blocks + 1, 2 ** 32 - 1))
-        write_file("old/" + IMAGE, data)
-        write_file(IMAGE, data)
+        put_image(data)
         remove(COMMANDS)
         try:
             ended = self.run(["retire", IMAGE, str(block)])
@@ -288,6 +284,12 @@ def need_files(has_commands: bool) -> None:
     for name in set(found) - set(wanted):
         os.remove(name)
     need(found == wanted, f"the folder holds {found}")
+
+
+def put_image(data: bytes) -> None:
+    """Writes an image, and a copy of it that stays."""
+    write_file("old/" + IMAGE, data)
+    write_file(IMAGE, data)
 
 
 def remove(name: str) -> None:
