@@ -246,7 +246,7 @@ def scope(tree: Tree, document: str) -> Set[str]:
     return set().union(*(tree.names[it] for it in tree.below.get(crate, tree.names)))
 
 
-def beside(tree: Tree, document: str) -> Set[str]:
+def words_beside(tree: Tree, document: str) -> Set[str]:
     """The words of the Python and C sources in the folder of a document."""
     folder = os.path.dirname(document)
     near = [it for it in tree.files if os.path.dirname(it) == folder != "" and it.endswith((".py", ".c"))]
@@ -265,7 +265,7 @@ def is_known(tree: Tree, name: str, known: Set[str]) -> bool:
 
 def code_names(tree: Tree, document: str, text: str) -> Iterator[Miss]:
     """The names in code type that no source has, and that are no words of the programs or of the document's blocks."""
-    known, said = scope(tree, document), said_words(tree.top) | beside(tree, document)
+    known, said = scope(tree, document), said_words(tree.top) | words_beside(tree, document)
     in_text = set(re.findall(r"[A-Za-z_]\w*", "\n".join(set(text.split("\n")) - set(prose(text).split("\n")))))
     stems = {os.path.basename(it).rsplit(".", 1)[0] for it in tree.files} | {it for name in tree.files
                                                                              for it in name.split("/")[:-1]}

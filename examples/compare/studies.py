@@ -60,7 +60,7 @@ class Study(NamedTuple):
     def changes(self, value: Number) -> Dict[str, Any]:
         return {"least": value, "most": value} if self.name == "sizes" else {self.number: value}
 
-    def varied(self) -> Set[str]:
+    def varied_names(self) -> Set[str]:
         """The names of the numbers that are those of the base nowhere."""
         return {*self.changes(0), *set.intersection(*(set(more) for _, more in self.variants))}
 
@@ -180,7 +180,7 @@ def chart_of(study: Study, base: Base, counted: Sequence[Counted]) -> Chart:
     for one in counted:
         lines.setdefault(one.line, []).append((one.value, one.result.amplification))
     series = [Series(name, places) for name, places in lines.items()]
-    return Chart(study.name, study.title, subtitle(base, study.varied()), study.axis, PROGRAMMED, series)
+    return Chart(study.name, study.title, subtitle(base, study.varied_names()), study.axis, PROGRAMMED, series)
 
 
 def note_on(all_counted: Sequence[Counted]) -> str:

@@ -6,7 +6,7 @@ from typing import Tuple
 
 from call_flash_view import asked_for, painted_text
 from programs import TOP
-from rooms import Room
+from tests.rooms import Room
 
 # Answers as the program does where that is told by its words, and makes an image of nothing but a magic.
 PROGRAM = """#!/bin/sh

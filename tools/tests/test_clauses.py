@@ -4,7 +4,7 @@ import unittest
 from unittest import mock
 
 import clauses
-from rooms import Room
+from tests.rooms import Room
 
 ANSWERS = """-- answers
 use Rattle.one.proofs.Goals.{returns-clause-stays}

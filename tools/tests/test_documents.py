@@ -4,7 +4,7 @@ import unittest
 from typing import List, Tuple
 
 import documents
-from rooms import Room
+from tests.rooms import Room
 
 FILES = {
     "crates.txt": "# 1. all\nlow: hex\nhigh_one: low  # on low\nbeside:\n",

@@ -5,7 +5,7 @@ import time
 import unittest
 
 import faults
-from rooms import Room
+from tests.rooms import Room
 
 
 class Faults(Room):

@@ -7,7 +7,7 @@ import unittest
 from typing import Tuple
 
 from programs import TOP
-from rooms import Room
+from tests.rooms import Room
 
 sys.path.insert(0, f"{TOP}/examples")
 
