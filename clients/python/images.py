@@ -11,21 +11,26 @@ import struct
 import sys
 from typing import Union
 
-HEADER, SPARE = struct.Struct("<8s7I"), 64
+HEADER, HEAD_BYTES, SPARE = struct.Struct("<8s7I"), 64, 64
 NUMBERS = {"scc": 1, "bpcc": 2}
+MOST_BYTES = 134217728
 
 
 def blank(protocol: str, page_bytes: int, pages: int, blocks: int, dies: int, logical: int, pending: int) -> bytes:
     """The image of a blank device."""
     head = HEADER.pack(b"TXFLASH1", NUMBERS[protocol], page_bytes, pages, blocks, dies, logical, pending)
     slots = pages * blocks * dies
-    return head.ljust(64, b"\0") + bytes(slots) + b"\xff" * (slots * (page_bytes + SPARE))
+    size = HEAD_BYTES + slots * (1 + page_bytes + SPARE)
+    if size > MOST_BYTES:
+        raise ValueError(f"{size} bytes, and an image has at most {MOST_BYTES}")
+    return head.ljust(HEAD_BYTES, b"\0") + bytes(slots) + b"\xff" * (slots * (page_bytes + SPARE))
 
 
 def write_blank(path: str, protocol: str, *numbers: int) -> None:
     """A new file with the image of a blank device, durable when this returns. The numbers are those of `blank`."""
+    image = blank(protocol, *numbers)
     with open(path, "xb") as file:
-        file.write(blank(protocol, *numbers))
+        file.write(image)
         file.flush()
         os.fsync(file.fileno())
 
@@ -38,6 +43,8 @@ def main() -> Union[int, str]:
         write_blank(words[0], words[1], *map(int, words[2:]))
     except OSError as error:
         return f"images: {words[0]}: {error.strerror}"
+    except ValueError as error:
+        return f"images: {words[0]}: {error}"
     except struct.error:
         return "images: a number is too large"
     return 0

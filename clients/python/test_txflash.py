@@ -9,6 +9,7 @@ import tempfile
 import threading
 import time
 import unittest
+import unittest.mock
 from typing import List
 
 import txflash
@@ -52,6 +53,11 @@ class Room(unittest.TestCase):
         assert device._process
         device._process.kill()
         device._process.wait()
+
+    def is_image(self) -> bool:
+        """Whether the file is an image, and no live one."""
+        with open(self.image, "rb") as file:
+            return file.read(8) == b"TXFLASH1"
 
     def pages(self, device: txflash.Device, *pages: int) -> List[int]:
         """The first byte of each page, 0 for a blank one."""
@@ -132,15 +138,31 @@ class Refusals(Room):
             device.read(20)
         self.assertEqual(beyond.exception.page, 20)
         self.assertRaises(txflash.RefusedEmpty, device.write, {})
+        with self.assertRaises(txflash.RefusedFull) as far_too_full:
+            device.write({page: b"c" for page in range(20)})
+        self.assertEqual(far_too_full.exception.free, 5)
         self.assertEqual(device.stats()[:3], (0, 1, 2))
 
     def test_what_no_line_can_say(self) -> None:
         device = self.device()
         for entries in ({-1: b""}, {2**32: b""}, {0: bytes(17)}):
             self.assertRaises(ValueError, device.write, entries)
+        for odd in ({1.5: b""}, {0: 5}, {0: "text"}):
+            self.assertRaises(TypeError, device.write, odd)
+        self.assertRaises(TypeError, device.read, 1.0)
+        self.assertRaises(ValueError, device.write, {0: memoryview(bytes(32)).cast("I")})
+        self.assertIsNone(device.read(True))
+        with self.assertRaises(txflash.RefusedRange) as beyond:
+            device.write({page: b"a" for page in range(300000)})
+        self.assertEqual(beyond.exception.page, 20)
         self.assertRaises(ValueError, device.arm, "cut", 0)
         self.assertRaises(ValueError, device.arm, "cut", 1, "some")
         self.assertEqual(device.stats()[1], 0)
+        device.close()
+
+    def test_no_image_is_too_large(self) -> None:
+        self.assertRaises(ValueError, write_blank, self.image + ".large", "scc", 4096, 256, 32768, 16, 20, 7)
+        self.assertFalse(os.path.exists(self.image + ".large"))
 
     def test_devices_that_do_not_open(self) -> None:
         device = self.device()
@@ -153,12 +175,74 @@ class Refusals(Room):
         with self.assertRaises(txflash.BadImage) as bad:
             txflash.Device(self.image + ".bad")
         self.assertIn("bad image: magic", str(bad.exception))
+        for kind in (txflash.NotServed, txflash.DeskFault):
+            self.assertRaises(kind, txflash.Device, os.path.dirname(self.image))
         self.assertRaises(txflash.NoProgram, txflash.Device, self.image, "/no/program")
         with self.assertRaises(txflash.NotServed) as other:
             txflash.Device(self.image, "true")
         self.assertIn("(nothing said, status 0): name flash_serve", str(other.exception))
         device.close()
         self.assertRaises(txflash.NotServed, device.read, 0)
+
+
+class Ends(Room):
+    def test_a_device_that_nobody_closes(self) -> None:
+        device = txflash.Device(self.image)
+        device.write({0: b"a"})
+        with self.assertWarns(ResourceWarning):
+            del device
+        self.assertTrue(self.is_image())
+        self.assertEqual(self.pages(self.device(), 0), [97])
+
+    def test_a_fork_leaves_the_device(self) -> None:
+        device = self.device()
+        transaction = device.begin({0: b"a", 1: b"b"})
+        child = os.fork()
+        if not child:
+            try:
+                device.read(0)
+            except txflash.NotServed:
+                device.close()
+                time.sleep(20)
+            finally:
+                os._exit(1)
+        self.addCleanup(os.waitpid, child, 0)
+        self.addCleanup(os.kill, child, signal.SIGKILL)
+        transaction.finish()
+        self.assertEqual(self.pages(device, 0, 1), [97, 98])
+        begun = time.monotonic()
+        device.close()
+        self.assertLess(time.monotonic() - begun, 10)
+        self.assertEqual(os.waitpid(child, os.WNOHANG), (0, 0))
+
+    def test_a_killed_one_is_closed_by_another(self) -> None:
+        for is_known in (False, True):
+            device = txflash.Device(self.image)
+            device.write({0: b"a"})
+            transaction = device.begin({1: b"b"})
+            self.kill(device)
+            self.assertFalse(self.is_image())
+            if is_known:
+                self.assertRaises(txflash.InDoubt, transaction.finish)
+            device.close()
+            self.assertTrue(self.is_image())
+
+    def test_an_exception_goes_on_where_the_program_was_killed(self) -> None:
+        device = self.device()
+        with self.assertRaises(KeyError), device.begin({0: b"a", 1: b"a"}) as transaction:
+            self.kill(device)
+            raise KeyError
+        self.assertEqual((transaction.state, self.pages(device, 0)), ("lost", [0]))
+
+
+class Names(Room):
+    def test_a_script_does_not_start_itself_for_ever(self) -> None:
+        script = self.image + ".script"
+        with open(script, "w", encoding="ascii") as file:
+            file.write(f'#!/bin/sh\nexec "${{FLASH_SERVE_PROGRAM:-{txflash.found_program(None)}}}" "$@"\n')
+        os.chmod(script, 0o755)
+        with unittest.mock.patch.dict(os.environ, {"FLASH_SERVE_PROGRAM": script}):
+            self.device().write({0: b"a"})
 
 
 class Breaks(Room):
@@ -254,6 +338,53 @@ class Kills(Room):
             signal.setitimer(signal.ITIMER_REAL, 0.3)
             self.assertRaises(KeyboardInterrupt, transaction.finish)
             self.assertEqual((transaction.state, device.read(0)), ("in doubt", None))
+
+    def test_a_signal_handler_takes_no_reply(self) -> None:
+        refused: List[RuntimeError] = []
+
+        def call(*_: object) -> None:
+            for it in (lambda: device.read(0), lambda: device.write({1: b"b"}), device.close):
+                with self.assertRaises(RuntimeError) as caught:
+                    it()
+                refused.append(caught.exception)
+
+        self.addCleanup(signal.signal, signal.SIGALRM, signal.signal(signal.SIGALRM, call))
+        with txflash.Device(self.image, self.program(LATE)) as device:
+            transaction = device.begin({7: b"b"})
+            signal.setitimer(signal.ITIMER_REAL, 0.3)
+            transaction.finish()
+            self.assertEqual((len(refused), device.read(0)), (3, None))
+
+    def test_interrupts_at_any_moment(self) -> None:
+        is_armed = False
+
+        def interrupt(*_: object) -> None:
+            if is_armed:
+                raise KeyboardInterrupt
+
+        self.addCleanup(signal.signal, signal.SIGALRM, signal.signal(signal.SIGALRM, interrupt))
+        device, draw, interrupts = self.device(), random.Random(1), 0
+        end = time.monotonic() + 20
+        while interrupts < 60 and time.monotonic() < end:
+            turn, kind = draw.randrange(1, 256), draw.choice(("write", "step", "step_all"))
+            entries = {page: bytes([turn]) for page in range(7)}
+            try:
+                is_armed = True
+                signal.setitimer(signal.ITIMER_REAL, draw.uniform(0.0001, 0.003))
+                transaction = None if kind == "write" else device.begin(entries)
+                while transaction and transaction.state == "open":
+                    device.step_all() if kind == "step_all" else transaction.step()
+                if not transaction:
+                    device.write(entries)
+                is_armed = False
+            except KeyboardInterrupt:
+                is_armed = False
+                interrupts += 1
+            self.assertEqual(device.stats().open, len(device._open))
+            for it in list(device._open.values()):
+                it.abort()
+            self.assertEqual(len(set(self.pages(device, *range(7)))), 1)
+        self.assertEqual(interrupts, 60)
 
     def test_kills_at_any_moment(self) -> None:
         device, draw, turn = self.device(), random.Random(1), 0
