@@ -8,6 +8,8 @@
 #include <stdio.h>
 #include <stdlib.h>
 #include <string.h>
+#include <sys/stat.h>
+#include <sys/wait.h>
 #include <unistd.h>
 
 int txflash_vfs_register(void);
@@ -162,14 +164,18 @@ static void rollbacks_and_savepoints(void) {
 }
 
 static void journal_modes(void) {
-    const char *modes[] = {"delete", "truncate", "persist", "memory", "off"};
+    const char *modes[] = {"delete", "memory", "truncate", "off", "persist"};
     sqlite3 *db = with_rows(PAGES, 20);
     for (int i = 0; i < 5; i++) {
-        EXPECT(says(db, text_of("PRAGMA journal_mode=%s", modes[i]), modes[i]));
+        EXPECT(says(db, text_of("PRAGMA journal_mode=%s", modes[i]), modes[i - i % 2]));
         EXPECT(run(db, "UPDATE t SET v = v + 1") == SQLITE_OK);
-        if (i < 4) EXPECT(run(db, "BEGIN; UPDATE t SET v = 50; ROLLBACK") == SQLITE_OK);
-        if (i < 4) EXPECT(run(db, "UPDATE t SET w = zeroblob(20000)") == SQLITE_FULL);
+        EXPECT(run(db, "BEGIN; UPDATE t SET v = 50; ROLLBACK") == SQLITE_OK);
+        EXPECT(run(db, "UPDATE t SET w = zeroblob(20000)") == SQLITE_FULL);
     }
+    EXPECT(run(db, "PRAGMA journal_mode=off; PRAGMA cache_size=5; PRAGMA locking_mode=exclusive;"
+                   "CREATE INDEX i ON t(v); BEGIN; UPDATE t SET v = 50; ROLLBACK") == SQLITE_OK);
+    EXPECT(is_sound(db) && says(db, "SELECT max(v) FROM t", "5"));
+    EXPECT(run(db, "PRAGMA cache_size=2000; PRAGMA locking_mode=normal; SELECT * FROM t") == SQLITE_OK);
     EXPECT(run(db, "PRAGMA journal_mode=wal") == SQLITE_ERROR && strstr(sqlite3_errmsg(db), "needs no log"));
     EXPECT(run(db, "PRAGMA locking_mode=exclusive; PRAGMA journal_mode=wal") == SQLITE_ERROR);
     close_and_look(db, "100");
@@ -211,6 +217,17 @@ static void too_large_commits(void) {
     }
 }
 
+/* What is freed and not overwritten is no part of a commit. */
+static void large_delete(void) {
+    sqlite3 *db = with_rows(400, 300);
+    EXPECT(run(db, "PRAGMA secure_delete=on; UPDATE t SET v = 1 WHERE n = 300") == SQLITE_OK);
+    EXPECT(run(db, "DELETE FROM t WHERE n < 300") == SQLITE_FULL);
+    EXPECT(strstr(told, "greater PENDING") != 0);
+    EXPECT(run(db, "PRAGMA secure_delete=fast; DELETE FROM t WHERE n < 300") == SQLITE_OK);
+    EXPECT(says(db, "SELECT count(*) FROM t", "1"));
+    close_and_look(db, "1");
+}
+
 static void vacuum(void) {
     sqlite3 *db = with_rows(PAGES, 30);
     EXPECT(run(db, "UPDATE t SET v = 1; DELETE FROM t WHERE n % 2 = 0") == SQLITE_OK);
@@ -247,8 +264,11 @@ static void one_connection(void) {
     EXPECT(is_refused(image, SQLITE_BUSY, "(in use, status 15): close the connection"));
     EXPECT(run(db, "UPDATE t SET v = 1") == SQLITE_OK);
     EXPECT(sqlite3_close(db) == SQLITE_OK);
-    EXPECT(open_at(image, &second) == SQLITE_OK);
-    close_and_look(second, "5");
+    EXPECT(open_at(text_of("%s?cache=shared", image), &db) == SQLITE_OK);
+    EXPECT(open_at(text_of("%s?cache=shared", image), &second) == SQLITE_OK);
+    EXPECT(run(second, "UPDATE t SET v = 2") == SQLITE_OK && says(db, "SELECT sum(v) FROM t", "10"));
+    EXPECT(sqlite3_close(db) == SQLITE_OK);
+    close_and_look(second, "10");
 }
 
 static void page_sizes(void) {
@@ -258,7 +278,7 @@ static void page_sizes(void) {
         EXPECT(open_at(image, &db) == SQLITE_OK);
         if (bytes != 4096) {
             EXPECT(run(db, "CREATE TABLE t(v)") == SQLITE_IOERR);
-            EXPECT(strstr(told, "give PRAGMA page_size=") != 0);
+            EXPECT(strstr(told, "open it again and give PRAGMA page_size=") != 0);
             EXPECT(run(db, "PRAGMA page_size=4096") == SQLITE_ERROR);
             sqlite3_close(db);
             EXPECT(open_at(image, &db) == SQLITE_OK);
@@ -283,9 +303,13 @@ static void several_databases(void) {
     remove(text_of("%s.other", image));
     EXPECT(run(db, text_of("ATTACH 'file:%s.other?vfs=unix' AS o; CREATE TABLE o.t(v); INSERT INTO o.t VALUES(1)",
                            image)) == SQLITE_OK);
-    EXPECT(run(db, "BEGIN; UPDATE main.t SET v = 2; UPDATE o.t SET v = 2; COMMIT") != SQLITE_OK);
-    EXPECT(strstr(told, "several databases") != 0);
-    run(db, "ROLLBACK");
+    for (int i = 0; i < 2; i++) {
+        told[0] = 0;
+        EXPECT(run(db, "BEGIN; UPDATE main.t SET v = 2; UPDATE o.t SET v = 2; COMMIT") != SQLITE_OK);
+        EXPECT(strstr(told, "several databases") != 0);
+        run(db, "ROLLBACK");
+        EXPECT(says(db, "PRAGMA main.journal_mode=memory", "delete"));
+    }
     EXPECT(says(db, "SELECT sum(v) FROM o.t", "1"));
     EXPECT(run(db, "UPDATE t SET v = (SELECT v FROM o.t)") == SQLITE_OK);
     EXPECT(run(db, "CREATE TEMP TABLE c AS SELECT * FROM t; UPDATE t SET v = v + (SELECT max(v) FROM c)") == SQLITE_OK);
@@ -329,6 +353,27 @@ static void copies(void) {
         EXPECT(sqlite3_close(memory) == SQLITE_OK);
     }
     close_and_look(db, "60");
+}
+
+/* A database with a log becomes one without. With an exclusive lock that is seen at the next opening. */
+static void copies_of_logs(void) {
+    const char *modes[] = {"normal", "exclusive"};
+    for (int i = 0; i < 2; i++) {
+        sqlite3 *db = with_rows(PAGES, 20), *logged;
+        const char *name = text_of("%s.%d", image, i);
+        remove(name);
+        EXPECT(sqlite3_open(name, &logged) == SQLITE_OK);
+        EXPECT(run(logged, "PRAGMA journal_mode=wal; CREATE TABLE t(v); INSERT INTO t VALUES(5)") == SQLITE_OK);
+        EXPECT(run(db, text_of("PRAGMA locking_mode=%s; SELECT * FROM t", modes[i])) == SQLITE_OK);
+        sqlite3_backup *copy = sqlite3_backup_init(db, "main", logged, "main");
+        EXPECT(copy && sqlite3_backup_step(copy, -1) == SQLITE_DONE && sqlite3_backup_finish(copy) == SQLITE_OK);
+        EXPECT(sqlite3_close(logged) == SQLITE_OK);
+        EXPECT(run(db, "UPDATE t SET v = v + 1") == (i ? SQLITE_CANTOPEN : SQLITE_OK));
+        if (i == 0) EXPECT(says(db, "PRAGMA journal_mode", "delete"));
+        EXPECT(sqlite3_close(db) == SQLITE_OK);
+        EXPECT(open_at(image, &db) == SQLITE_OK);
+        close_and_look(db, i ? "5" : "6");
+    }
 }
 
 static void bad_input(void) {
@@ -387,6 +432,15 @@ static int write_batch(sqlite3_file *file, unsigned char version, int others) {
     return calls->xFileControl(file, SQLITE_FCNTL_COMMIT_ATOMIC_WRITE, 0);
 }
 
+/* Writes a first page that says another size. */
+static int write_size(sqlite3_file *file, unsigned char size) {
+    unsigned char page[4096];
+    EXPECT(file->pMethods->xRead(file, page, sizeof page, 0) == SQLITE_OK);
+    page[31] = size;
+    EXPECT(file->pMethods->xWrite(file, page, sizeof page, 0) == SQLITE_OK);
+    return file->pMethods->xFileControl(file, SQLITE_FCNTL_SYNC, 0);
+}
+
 static void batches(void) {
     sqlite3_file *file = 0;
     sqlite3 *db = with_rows(PAGES, 50);
@@ -397,6 +451,7 @@ static void batches(void) {
     EXPECT(strstr(told, "greater PENDING") != 0);
     EXPECT(file->pMethods->xFileControl(file, SQLITE_FCNTL_ROLLBACK_ATOMIC_WRITE, 0) == SQLITE_OK);
     EXPECT(file->pMethods->xFileControl(file, SQLITE_FCNTL_SYNC, 0) == SQLITE_FULL);
+    EXPECT(write_size(file, 0) == SQLITE_CORRUPT && write_size(file, PAGES + 1) == SQLITE_CORRUPT);
     sqlite3_close(db);
     EXPECT(open_at(image, &db) == SQLITE_OK);
     EXPECT(says(db, "PRAGMA user_version", "7"));
@@ -425,13 +480,51 @@ static void killed_process(void) {
     close_and_look(db, "20");
 }
 
+/* A child that was forked has no part in the database, and takes it from nobody. */
+static void forked_process(void) {
+    sqlite3 *db = with_rows(PAGES, 20);
+    int status = -1;
+    pid_t child = fork();
+    if (child == 0) {
+        int code = run(db, "UPDATE t SET v = 7");
+        sqlite3_close(db);
+        _exit((code & 0xff) != SQLITE_IOERR);
+    }
+    EXPECT(waitpid(child, &status, 0) == child && status == 0);
+    EXPECT(run(db, "UPDATE t SET v = 1") == SQLITE_OK);
+    close_and_look(db, "20");
+}
+
+/* Where the program around SQLite has no children to wait for, a close says nothing of that. */
+static void ignored_children(void) {
+    sqlite3 *db = with_rows(PAGES, 20);
+    signal(SIGCHLD, SIG_IGN);
+    close_and_look(db, "0");
+    signal(SIGCHLD, SIG_DFL);
+    EXPECT(told[0] == 0);
+}
+
+/* A script that starts the program which the environment names does not start itself for ever. */
+static void named_script(void) {
+    sqlite3 *db = with_rows(PAGES, 20);
+    EXPECT(sqlite3_close(db) == SQLITE_OK);
+    const char *named = getenv("FLASH_SERVE_PROGRAM"), *script = text_of("%s/script", folder);
+    FILE *file = fopen(script, "w");
+    if (!file) exit(2);
+    fprintf(file, "#!/bin/sh\nexec \"${FLASH_SERVE_PROGRAM:-%s}\" \"$@\"\n", named ? named : TXFLASH_SERVE);
+    if (fclose(file) || chmod(script, 0755) || setenv("FLASH_SERVE_PROGRAM", script, 1)) exit(2);
+    EXPECT(open_at(image, &db) == SQLITE_OK);
+    close_and_look(db, "0");
+}
+
 static const struct { const char *name; void (*body)(void); } checks[] = {
     {"rollbacks", rollbacks_and_savepoints}, {"journal_modes", journal_modes}, {"no_sync", no_sync},
-    {"small_cache", small_cache}, {"too_large_commits", too_large_commits}, {"vacuum", vacuum},
-    {"shrinking", shrinking}, {"one_connection", one_connection}, {"page_sizes", page_sizes},
+    {"small_cache", small_cache}, {"too_large_commits", too_large_commits}, {"large_delete", large_delete},
+    {"vacuum", vacuum}, {"shrinking", shrinking}, {"one_connection", one_connection}, {"page_sizes", page_sizes},
     {"full_device", full_device}, {"several_databases", several_databases}, {"other_main", other_main},
-    {"copies", copies}, {"bad_input", bad_input}, {"foreign_heads", foreign_heads}, {"batches", batches},
-    {"killed_process", killed_process},
+    {"copies", copies}, {"copies_of_logs", copies_of_logs}, {"bad_input", bad_input}, {"foreign_heads", foreign_heads},
+    {"batches", batches}, {"killed_process", killed_process}, {"forked_process", forked_process},
+    {"ignored_children", ignored_children}, {"named_script", named_script},
 };
 
 /* Whether a device is served at all. */

@@ -41,7 +41,7 @@ extern char **environ;
 
 /* A process that serves a device, the socket on which it is asked, and the numbers of the device. */
 struct session {
-    pid_t process;
+    pid_t process, owner; /* `owner` has started it, and a fork of that has no part in it */
     int line; /* -1 where there is none, or where it has ended */
     size_t heard, taken; /* of the bytes that came, and of those that were replies already */
     char reply[LONGEST_REPLY];
@@ -60,6 +60,7 @@ struct database {
     uint32_t count; /* how many pages wait */
     int is_again; /* whether some of them may be as they are on the device */
     uint32_t size, kept; /* the pages of the database with those that wait, and on the device */
+    const char *journal_mode;
 };
 
 /* Says what is wrong and what to do, and answers the code. */
@@ -78,17 +79,31 @@ static int tell(int code, const char *format, ...) {
 
 /* The process */
 
+/* The environment without what names the program: a script that is named there would start itself for ever. */
+static char **other_variables(void) {
+    size_t count = 0, kept = 0;
+    while (environ[count]) count++;
+    char **variables = sqlite3_malloc64((count + 1) * sizeof *variables);
+    for (size_t i = 0; variables && i < count; i++) {
+        if (strncmp(environ[i], "FLASH_SERVE_PROGRAM=", 20)) variables[kept++] = environ[i];
+    }
+    if (variables) variables[kept] = 0;
+    return variables;
+}
+
 static int spawn(pid_t *process, const char *program, const char *image, int end) {
     char *words[] = {(char *)program, (char *)image, 0};
     posix_spawn_file_actions_t actions;
     posix_spawnattr_t attributes;
     posix_spawn_file_actions_init(&actions);
     posix_spawnattr_init(&attributes);
-    int wrong = posix_spawn_file_actions_adddup2(&actions, end, 0);
+    char **variables = other_variables();
+    int wrong = variables ? posix_spawn_file_actions_adddup2(&actions, end, 0) : ENOMEM;
     if (!wrong) wrong = posix_spawn_file_actions_adddup2(&actions, end, 1);
     /* In a group of its own it is spared the Ctrl-C of a shell, and ends with its input. */
     if (!wrong) wrong = posix_spawnattr_setflags(&attributes, POSIX_SPAWN_SETPGROUP);
-    if (!wrong) wrong = posix_spawnp(process, program, &actions, &attributes, words, environ);
+    if (!wrong) wrong = posix_spawnp(process, program, &actions, &attributes, words, variables);
+    sqlite3_free(variables);
     posix_spawnattr_destroy(&attributes);
     posix_spawn_file_actions_destroy(&actions);
     return wrong;
@@ -109,21 +124,31 @@ static int start_session(struct session *it, const char *program, const char *im
                     strerror(wrong));
     }
     it->line = ends[0];
+    it->owner = getpid();
     it->heard = it->taken = 0;
     return SQLITE_OK;
 }
 
-/* Lets the process end, and answers its status: -1 for a signal, or where another has waited for it. */
+/* Whether the process has ended, or is another's: a fork lets it go. */
+static int is_over(struct session *it) {
+    if (it->line >= 0 && it->owner != getpid()) {
+        close(it->line);
+        it->line = -1;
+    }
+    return it->line < 0;
+}
+
+/* Lets the process end, and answers its status: -1 for a signal, 0 where that is not told, since another has waited. */
 static int end_session(struct session *it) {
     int status = -1;
     char rest[512];
-    if (it->line < 0) return 0;
+    if (is_over(it)) return 0;
     shutdown(it->line, SHUT_WR);
     while (recv(it->line, rest, sizeof rest, 0) > 0) continue;
     close(it->line);
     it->line = -1;
     while (waitpid(it->process, &status, 0) < 0) {
-        if (errno != EINTR) return -1;
+        if (errno != EINTR) return 0;
     }
     return WIFEXITED(status) ? WEXITSTATUS(status) : -1;
 }
@@ -163,7 +188,7 @@ static int is_reply(const char *reply, const char *begin) {
 
 /* The process does not answer as it should: it is over, and the database with it until it is opened again. */
 static int lose(struct session *it, const char *reply) {
-    if (it->line < 0) return SQLITE_IOERR;
+    if (is_over(it)) return SQLITE_IOERR;
     tell(SQLITE_IOERR, "the process of the device has ended (%.60s): close the database and open it again; a commit "
          "that was in hand is whole or absent", reply ? reply : "no reply");
     kill(it->process, SIGKILL);
@@ -189,6 +214,20 @@ static uint32_t told_page_bytes(const unsigned char *first) {
 
 static uint32_t told_size(const unsigned char *first) {
     return big(first + 28);
+}
+
+/* Makes a database with a log one without, since there is no log; whether it was one. */
+static int drop_log(unsigned char *first) {
+    int has_log = first[18] == 2 || first[19] == 2;
+    if (has_log) first[18] = first[19] = 1;
+    return has_log;
+}
+
+/* Lets the first page count one change more, so that SQLite reads it again, unless it has an exclusive lock. */
+static void count_change(unsigned char *first) {
+    for (int at = 24; at <= 92; at += 68) {
+        for (int i = 3; i >= 0 && ++first[at + i] == 0; i--) continue;
+    }
 }
 
 /* A page of the device, zeros where it is blank. */
@@ -228,7 +267,8 @@ static int not_served(struct session *it, const char *image, const char *reply) 
         {"bad image", SQLITE_CANTOPEN, "take an image of a device"},
         {"file too long", SQLITE_CANTOPEN, "take an image of a device"},
         {"unsound", SQLITE_CANTOPEN, "take a good copy of it"},
-        {"desk fault", SQLITE_CANTOPEN, "see that it may be written, and look at its disk"},
+        {"no memory", SQLITE_CANTOPEN, "free some memory"},
+        {"desk fault", SQLITE_CANTOPEN, "see that it and its folder may be written, and look at its disk"},
         {"", SQLITE_CANTOPEN, "name flash_serve in FLASH_SERVE_PROGRAM"},
     };
     char said[128];
@@ -236,13 +276,14 @@ static int not_served(struct session *it, const char *image, const char *reply) 
     snprintf(said, sizeof said, "%.100s", reply ? reply : "nothing said");
     int status = end_session(it);
     while (!is_reply(said, lines[place].begin)) place++;
-    return tell(lines[place].code, "%s is not served (%s, status %d): %s", image, said, status, lines[place].advice);
+    const char *advice = status < 0 ? "a signal ended it, so try again" : lines[place].advice;
+    return tell(lines[place].code, "%s is not served (%s, status %d): %s", image, said, status, advice);
 }
 
 static const char *program_of(const char *name) {
     const char *named = sqlite3_uri_parameter(name, "serve");
     if (!named) named = getenv("FLASH_SERVE_PROGRAM");
-    if (named) return named;
+    if (named && named[0]) return named;
     return access(TXFLASH_SERVE, X_OK) ? "flash_serve" : TXFLASH_SERVE;
 }
 
@@ -352,17 +393,21 @@ static int commit_all(struct database *it, uint32_t size) {
 
 static int other_pages(struct database *it, uint32_t bytes) {
     uint32_t own = it->session.page_bytes;
-    return tell(SQLITE_IOERR_WRITE, "SQLite's pages are to have %u bytes, and those of the device have %u: give PRAGMA "
-                "page_size=%u before the first table, or PRAGMA page_size=%u and VACUUM to what is copied", bytes, own,
-                own, own);
+    return tell(SQLITE_IOERR_WRITE, "SQLite's pages are to have %u bytes, and those of the device have %u: open it "
+                "again and give PRAGMA page_size=%u before the first table, or PRAGMA page_size=%u and VACUUM to what "
+                "is copied", bytes, own, own, own);
 }
 
 /* All that waits, if it is any change, becomes one transaction. It goes on waiting where that is refused. */
 static int hand_over(struct database *it) {
     const unsigned char *first = it->waiting[0] ? it->waiting[0] : it->first;
     uint32_t size = told_size(first), bytes = told_page_bytes(first), pending = it->session.pending;
-    if (it->session.line < 0) return SQLITE_IOERR;
+    if (is_over(&it->session)) return SQLITE_IOERR;
     if (it->waiting[0] && bytes != it->session.page_bytes) return other_pages(it, bytes);
+    if (it->waiting[0] && (size == 0 || size > it->session.logical)) {
+        return tell(SQLITE_CORRUPT, "the first page says %u as the size of the database: write to it by SQLite", size);
+    }
+    if (it->waiting[0] && drop_log(it->waiting[0])) count_change(it->waiting[0]);
     cut_off(it, size);
     int code = it->is_again || it->count > pending ? drop_unchanged(it) : SQLITE_OK;
     if (code || it->count == 0) return code;
@@ -405,7 +450,7 @@ static int database_read(sqlite3_file *file, void *to, int amount, sqlite3_int64
     struct database *it = (struct database *)file;
     uint32_t bytes = it->session.page_bytes, skipped = (uint32_t)(offset % bytes);
     sqlite3_int64 page = offset / bytes;
-    if (it->session.line < 0) return SQLITE_IOERR_READ;
+    if (is_over(&it->session)) return SQLITE_IOERR_READ;
     if (page >= it->size) {
         memset(to, 0, (size_t)amount);
         return SQLITE_IOERR_SHORT_READ;
@@ -421,7 +466,7 @@ static int database_write(sqlite3_file *file, const void *from, int amount, sqli
     struct database *it = (struct database *)file;
     uint32_t bytes = it->session.page_bytes;
     sqlite3_int64 page = offset / bytes;
-    if (it->session.line < 0) return SQLITE_IOERR_WRITE;
+    if (is_over(&it->session)) return SQLITE_IOERR_WRITE;
     if ((uint32_t)amount != bytes || offset % bytes) return other_pages(it, (uint32_t)amount);
     if (page >= it->session.logical) {
         return tell(SQLITE_FULL, "the device has %u pages, and the database needs more: remove rows, or take an image "
@@ -477,15 +522,29 @@ static int database_reserved(sqlite3_file *file, int *is_reserved) {
     return SQLITE_OK;
 }
 
-/* Refuses a log and pages of another size; all else is SQLite's own. */
+/* Refuses a log. The modes `memory` and `off` spare nothing, since the journal is in memory: the mode stays as it is,
+ * and so does what takes back a commit, and what refuses one of several databases. */
+static int change_journal(struct database *it, char **words) {
+    static const char *const modes[] = {"delete", "truncate", "persist"};
+    const char *value = words[2];
+    if (sqlite3_stricmp(value, "wal") == 0) {
+        words[0] = sqlite3_mprintf("%s", NO_LOG);
+        return SQLITE_ERROR;
+    }
+    for (int i = 0; i < 3; i++) {
+        if (sqlite3_stricmp(value, modes[i]) == 0) it->journal_mode = modes[i];
+    }
+    if (sqlite3_stricmp(value, "memory") && sqlite3_stricmp(value, "off")) return SQLITE_NOTFOUND;
+    words[0] = sqlite3_mprintf("%s", it->journal_mode);
+    return SQLITE_OK;
+}
+
+/* Looks at journals and at pages of another size; all else is SQLite's own. */
 static int pragma(struct database *it, char **words) {
     const char *name = words[1], *value = words[2];
     uint32_t bytes = it->session.page_bytes;
     if (!value) return SQLITE_NOTFOUND;
-    if (sqlite3_stricmp(name, "journal_mode") == 0 && sqlite3_stricmp(value, "wal") == 0) {
-        words[0] = sqlite3_mprintf("%s", NO_LOG);
-        return SQLITE_ERROR;
-    }
+    if (sqlite3_stricmp(name, "journal_mode") == 0) return change_journal(it, words);
     if (sqlite3_stricmp(name, "page_size") == 0 && strtoul(value, 0, 10) != bytes) {
         words[0] = sqlite3_mprintf("the pages of the device have %u bytes: give PRAGMA page_size=%u", bytes, bytes);
         return SQLITE_ERROR;
@@ -563,8 +622,7 @@ static int read_first(struct database *it, const char *image) {
         return tell(SQLITE_CANTOPEN, "the database in %s has %u pages, and its device %u: bring all of it to an image "
                     "with a LOGICAL of that", image, size, it->session.logical);
     }
-    /* A database of a log is one without where there is no log. */
-    if (head[18] == 2) head[18] = head[19] = 1;
+    drop_log(head);
     it->size = it->kept = size;
     return SQLITE_OK;
 }
@@ -581,6 +639,7 @@ static int open_pages(struct database *it, const char *image) {
 
 static int open_database(struct database *it, const char *name) {
     memset(it, 0, sizeof *it);
+    it->journal_mode = "delete";
     int code = open_session(&it->session, name);
     if (!code) code = open_pages(it, name);
     if (code) database_close(&it->base);
