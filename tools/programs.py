@@ -23,8 +23,10 @@ def version() -> str:
 
 def named_program(program: str) -> Optional[str]:
     """The built program that the environment names, as TXFLASH_PROGRAM, FLASH_VIEW_PROGRAM or
-    FLASH_SERVE_PROGRAM, if it does."""
-    return os.environ.get(f"{program.upper()}_PROGRAM")
+    FLASH_SERVE_PROGRAM, if it does. The script is none, and would start itself for ever."""
+    named = os.environ.get(f"{program.upper()}_PROGRAM")
+    is_script = named and os.path.exists(named) and os.path.samefile(named, f"{TOP}/{program}")
+    return None if is_script else named
 
 
 def proved_program(program: str) -> Optional[str]:

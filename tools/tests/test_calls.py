@@ -3,9 +3,10 @@ import os
 import subprocess
 import unittest
 from typing import Tuple
+from unittest import mock
 
 from call_flash_view import asked_for, painted_text
-from programs import TOP
+from programs import TOP, named_program
 from tests.rooms import Room
 
 # Answers as the program does where that is told by its words, and makes an image of nothing but a magic.
@@ -40,6 +41,11 @@ class Calls(Room):
         status, said, told = self.call()
         self.assertEqual((status, said), (1, ""))
         self.assertIn("docs/manual.md", told)
+
+    def test_a_script_names_no_program(self) -> None:
+        for script in ("txflash", "flash_view", "flash_serve"):
+            with mock.patch.dict(os.environ, {f"{script.upper()}_PROGRAM": f"{TOP}/{script}"}):
+                self.assertIsNone(named_program(script))
 
     def test_a_bad_line_has_its_reason(self) -> None:
         self.put("bad.txt", b"read 0\nREAD 0\n")
