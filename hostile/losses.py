@@ -38,7 +38,7 @@ IMAGE, TRACE = "d.img", "trace.txt"
 SYNCS = ("sync", "kept", "named")
 SECTOR = 512
 # How often losses are drawn where syncs are left out, and of how many something must be noticed.
-TRIES, MANY = 60, 8
+TRIES, MANY = 240, 8
 Draw = random.Random
 Piece = Tuple[int, bytes]
 
